@@ -6,7 +6,11 @@ use vocabulary::fields::CallFields;
 use vocabulary::fields::MakingFields;
 
 // A log with the given entries, each a kind and a length, and so many zero bytes behind them.
-pub fn log(heap: Global, entries: &[(u8, u16)], bodies: usize) -> Result<Vec<u8>, AllocError> {
+pub(crate) fn log(
+    heap: Global,
+    entries: &[(u8, u16)],
+    bodies: usize,
+) -> Result<Vec<u8>, AllocError> {
     let mut log = Vec::new(heap);
     log.push((entries.len() & 0xff) as u8)?;
     for (kind, length) in entries {
@@ -20,21 +24,21 @@ pub fn log(heap: Global, entries: &[(u8, u16)], bodies: usize) -> Result<Vec<u8>
 }
 
 // A fault's number and place, or two zeros where the log is read.
-pub fn fault(log: &[u8]) -> (u8, usize) {
+pub(crate) fn fault(log: &[u8]) -> (u8, usize) {
     match read(log) {
         Ok(_) => (0, 0),
         Err(fault) => (fault.number(), fault.place()),
     }
 }
 
-pub const MAKING: MakingFields = MakingFields {
+pub(crate) const MAKING: MakingFields = MakingFields {
     track: 1,
     line: 2,
     running_time: 3,
     tray: 255,
 };
 
-pub const FIRST: CallFields = CallFields {
+pub(crate) const FIRST: CallFields = CallFields {
     call: 3,
     station: 1,
     minute: 0x0102_0304,
@@ -43,7 +47,7 @@ pub const FIRST: CallFields = CallFields {
     pass: 10,
 };
 
-pub const LARGEST: CallFields = CallFields {
+pub(crate) const LARGEST: CallFields = CallFields {
     call: 255,
     station: 255,
     minute: 0xffff_ffff,

@@ -1,0 +1,3 @@
+mod Ring
+mod Lists
+pub mod Facts

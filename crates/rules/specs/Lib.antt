@@ -1,0 +1,17 @@
+pub mod Cabinets
+pub mod Calls
+pub mod Effects
+pub mod History
+pub mod Laws
+pub mod Making
+pub mod Outcome
+pub mod Records
+pub mod Refusals
+pub mod Rights
+pub mod Runs
+pub mod Safety
+pub mod Section
+pub mod Tests
+pub mod Track
+pub mod Tray
+pub mod Trials
