@@ -1,4 +1,6 @@
 // The rules of working one section: what a cabinet remembers, the paper, the track, and what a cabinet does at each call.
+#![tactic(auto)]
+
 pub mod cabinet;
 pub mod call;
 pub mod calls;

@@ -11,6 +11,8 @@
 //   For the same reason 26 for accept and release is met only by record numbers, never by the right number.
 // - 22 for a release by A: A has something to release only by an open ask or an acceptance; an issue empties both, and with a train out there is no new one. B with the right can meet it.
 // - 27 in telephone working: a full tray holds papers of this station, which are then out (22), or of the other one, and then the right is not here (21).
+#![tactic(auto)]
+
 #[cfg(test)]
 mod damaged;
 #[cfg(test)]

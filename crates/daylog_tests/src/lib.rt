@@ -1,4 +1,6 @@
 // Trials of the day log: what is refused and where, what is read, what is written, and how it is listed.
+#![tactic(auto)]
+
 #[cfg(test)]
 mod lines;
 #[cfg(test)]

@@ -1,4 +1,6 @@
 // Runs the day whose log is on standard input, and prints its report. It ends with status 0, whatever the log is.
+#![tactic(auto)]
+
 use anyhow::anyhow;
 use day::{DayError, DayReport, run_day};
 use daylog::read::LONGEST_LOG;

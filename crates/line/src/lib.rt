@@ -1,4 +1,6 @@
 // The line between the stations: what it means, and the two lines that are built.
+#![tactic(auto)]
+
 pub mod line;
 pub mod message;
 pub mod printer;

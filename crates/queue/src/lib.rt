@@ -1,4 +1,6 @@
 // A double-ended queue in a lent space.
+#![tactic(auto)]
+
 ghost use Rattle.std.specs.Prelude.{◌≤◌, length};
 
 mod changing;

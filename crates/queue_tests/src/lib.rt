@@ -1,4 +1,6 @@
 // Small callers of the queue, proved from its contracts alone, and runs of it.
+#![tactic(auto)]
+
 ghost use Rattle.std.specs.Prelude.{◌≡◌, ◌+◌, ◌<◌, ◌≤◌, [], ◌∷◌, ◌++◌, length, Some};
 ghost use Rattle.queue.specs.Model.{items, room_of};
 

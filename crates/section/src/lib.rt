@@ -1,4 +1,6 @@
 // A section of track between two stations, worked by its two cabinets over a line.
+#![tactic(auto)]
+
 use cabinets::cabinet::Cabinet;
 use cabinets::track::Track;
 use line::line::Line;

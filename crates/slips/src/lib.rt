@@ -1,4 +1,6 @@
 // Slips: a token for each paper in hand, spent by its departure or cancellation.
+#![tactic(auto)]
+
 use vocabulary::fault::Fault;
 use vocabulary::number::Serial;
 use vocabulary::station::Station;
