@@ -27,7 +27,7 @@ pub kept_space : {X : Type 0} (q q' : Queue X) → q'.room ≡ q.room → q'.spa
 kept_space q q' r s =
     record {
       same_room = r;
-      same_space = ap (λ x. x.name) s;
+      same_space = ap (λ x. x.ghost_name) s;
       same_extent = ap (λ x. length x.now) s;
       same_spare = cc;
       fit_before = items_fit q;

@@ -5,11 +5,11 @@ use Rattle.queue.proofs.Facts.{length-items, kept_space, kept_trans}
 use Rattle.queue.proofs.Ring.{window_push}
 use Rattle.queue.proofs.Queue.append.Goals as goal
 
-pub overflow-add-self : goal.overflow-add-self
-overflow-add-self g c = let n = length-items c.args.self.now in search rules
+pub overflow_add-self : goal.overflow_add-self
+overflow_add-self g c = let n = length-items c.args.self.now in search rules
 
-pub invariant-of-self : goal.invariant-of-self
-invariant-of-self g c = let n = length-items c.args.self.now in search rules
+pub invariant_of-self : goal.invariant_of-self
+invariant_of-self g c = let n = length-items c.args.self.now in search rules
 
 pub put-requires : goal.put-requires
 put-requires g c = simp length-items (omega arith)

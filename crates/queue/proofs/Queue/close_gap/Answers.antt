@@ -17,7 +17,7 @@ returns g c =
     let ys = items c.loop-next.self in
     let z : c.loop-next.next - 1 ≡ length ys - 1 = omega arith in
     record {
-      held = c.drop-back.ensures.held ∙ sym (removed_last ys (omega arith)) ∙ ap (remove ys) (sym z) ∙ c.loop-next.invariant.0;
-      len = c.drop-back.ensures.len ∙ c.loop-next.invariant.1;
-      kept = kept_trans _ _ _ c.loop-next.invariant.2 c.drop-back.ensures.kept;
+      held = c.drop_back.ensures.held ∙ sym (removed_last ys (omega arith)) ∙ ap (remove ys) (sym z) ∙ c.loop-next.invariant.0;
+      len = c.drop_back.ensures.len ∙ c.loop-next.invariant.1;
+      kept = kept_trans _ _ _ c.loop-next.invariant.2 c.drop_back.ensures.kept;
     }

@@ -4,8 +4,8 @@ use Rattle.queue.specs.Model.{items}
 use Rattle.queue.proofs.Facts.{length-items, kept_space}
 use Rattle.queue.proofs.Queue.drop_back.Goals as goal
 
-pub overflow-sub-self : goal.overflow-sub-self
-overflow-sub-self g c = omega (arith, length-items c.args.self.now)
+pub overflow_sub-self : goal.overflow_sub-self
+overflow_sub-self g c = omega (arith, length-items c.args.self.now)
 
 pub returns : goal.returns
 unfolding items

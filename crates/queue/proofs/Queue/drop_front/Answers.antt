@@ -10,11 +10,11 @@ use Rattle.queue.proofs.Queue.drop_front.Goals as goal
 pub place-self-requires : goal.place-self-requires
 place-self-requires g c = omega (arith, items_fit c.args.self.now)
 
-pub overflow-sub-self : goal.overflow-sub-self
-overflow-sub-self g c = omega (arith, length-items c.args.self.now)
+pub overflow_sub-self : goal.overflow_sub-self
+overflow_sub-self g c = omega (arith, length-items c.args.self.now)
 
-pub invariant-of-self : goal.invariant-of-self
-invariant-of-self g c =
+pub invariant_of-self : goal.invariant_of-self
+invariant_of-self g c =
     let q = c.args.self.now in
     let n = length-items q in
     let p : c.place-self.result ≤ q.room = grind (arith, nat_tests) in

@@ -8,8 +8,8 @@ use Rattle.queue.proofs.Queue.item.Goals as goal
 pub place-place-requires : goal.place-place-requires
 place-place-requires g c = omega (arith, items_fit c.args.self.now)
 
-pub offset-bounds-space-place : goal.offset-bounds-space-place
-offset-bounds-space-place g c =
+pub offset_bounds-space-place : goal.offset_bounds-space-place
+offset_bounds-space-place g c =
     omega (arith, item_in_space c.args.self.now c.args.at c.requires)
 
 pub bounds-space-place : goal.bounds-space-place

@@ -9,8 +9,8 @@ use Rattle.queue.proofs.Queue.put.Goals as goal
 pub place-place-requires : goal.place-place-requires
 place-place-requires g c = omega (arith, items_fit c.args.self.now)
 
-pub offset-bounds-self-place : goal.offset-bounds-self-place
-offset-bounds-self-place g c =
+pub offset_bounds-self-place : goal.offset_bounds-self-place
+offset_bounds-self-place g c =
     let l = item_in_space c.args.self.now c.args.at c.requires in search rules
 
 pub bounds-self-place : goal.bounds-self-place

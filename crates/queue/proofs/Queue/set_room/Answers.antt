@@ -6,10 +6,10 @@ use Rattle.queue.specs.Model.{items}
 use Rattle.queue.proofs.Facts.{length-items}
 use Rattle.queue.proofs.Queue.set_room.Goals as goal
 
-pub invariant-of-self : goal.invariant-of-self
-invariant-of-self g c =
+pub invariant_of-self : goal.invariant_of-self
+invariant_of-self g c =
     let n = length-items c.args.self.now in
-    let e = eqb-true (length (items c.args.self.now)) 0 (sym c.if-not-is-empty.ensures) in
+    let e = eqb-true (length (items c.args.self.now)) 0 (sym c.if-not-is_empty.ensures) in
     search rules
 
 pub returns : goal.returns
@@ -17,7 +17,7 @@ unfolding items
 returns g c =
     let q = c.args.self.now in
     let n = length-items q in
-    let e = eqb-true (length (items q)) 0 (sym c.if-not-is-empty.ensures) in
+    let e = eqb-true (length (items q)) 0 (sym c.if-not-is_empty.ensures) in
     let none : q.count ≡ 0 = omega arith in
     record {
       held = grind (arith, nat_tests);

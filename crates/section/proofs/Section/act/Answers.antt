@@ -10,7 +10,7 @@ returns-in-Err g c =
     let line = g.L.Line in
     let q = c.args.tray.now in
     record {
-      ruled = refused_act line.meaning line.hears line.drops line.mends line.laws c.args.self.now c.listen-desk.new.self q c.args.at c.args.minute c.args.act c.listen-desk.result c.listen-desk.ensures.rest c.cabinet-cabinet.result (c.cabinet-cabinet.ensures q) c.desk-desk.result (c.desk-desk.ensures q) c.hears-now.result c.hears-now.ensures c.listen-desk.ensures.heard c.in-Err.fault c.work.new.cabinet c.work.new.tray c.in-Err.ensures.done (c.in-Err.ensures.refused refl);
+      ruled = refused_act line.meaning line.hears line.drops line.mends line.laws c.args.self.now c.listen-desk.new.self q c.args.at c.args.minute c.args.act c.listen-desk.result c.listen-desk.ensures.rest c.cabinet-cabinet.result (c.cabinet-cabinet.ensures q) c.desk-desk.result (c.desk-desk.ensures q) c.hears_now.result c.hears_now.ensures c.listen-desk.ensures.heard c.in-Err.fault c.work.new.cabinet c.work.new.tray c.in-Err.ensures.done (c.in-Err.ensures.refused refl);
       by_line = λ y. absurd (false≢true (and_parts (is_hear c.args.act) false y).1);
       tray_kept = c.work.ensures.kept;
       refused = c.in-Err.ensures.refused;
@@ -24,7 +24,7 @@ returns-then-not-settle g c =
     let n = c.if-not-settle.ensures in
     let e = c.in-Ok.ensures.said (not_taken _ c.in-Ok.done.message _ n.taken) in
     record {
-      ruled = unposted_act line.meaning line.hears line.drops line.mends line.laws c.args.self.now c.listen-desk.new.self q c.args.at c.args.minute c.args.act c.listen-desk.result c.listen-desk.ensures.rest c.cabinet-cabinet.result (c.cabinet-cabinet.ensures q) c.desk-desk.result (c.desk-desk.ensures q) c.hears-now.result c.hears-now.ensures c.listen-desk.ensures.heard c.in-Ok.done c.work.new.cabinet c.work.new.tray c.in-Ok.ensures.done c.settle.new.self n.taken (n.after c.work.new.tray) e;
+      ruled = unposted_act line.meaning line.hears line.drops line.mends line.laws c.args.self.now c.listen-desk.new.self q c.args.at c.args.minute c.args.act c.listen-desk.result c.listen-desk.ensures.rest c.cabinet-cabinet.result (c.cabinet-cabinet.ensures q) c.desk-desk.result (c.desk-desk.ensures q) c.hears_now.result c.hears_now.ensures c.listen-desk.ensures.heard c.in-Ok.done c.work.new.cabinet c.work.new.tray c.in-Ok.ensures.done c.settle.new.self n.taken (n.after c.work.new.tray) e;
       by_line = λ y. absurd (false≢true (and_parts (is_hear c.args.act) false y).1);
       tray_kept = c.work.ensures.kept;
       refused = λ _. e;
@@ -38,8 +38,8 @@ returns g c =
     let n = c.if-not-settle.ensures in
     let room = c.work.ensures.kept.same_room in
     record {
-      ruled = done_act line.meaning line.hears line.drops line.mends line.laws c.args.self.now c.listen-desk.new.self q c.args.at c.args.minute c.args.act c.listen-desk.result c.listen-desk.ensures.rest c.cabinet-cabinet.result (c.cabinet-cabinet.ensures q) c.desk-desk.result (c.desk-desk.ensures q) c.hears-now.result c.hears-now.ensures c.listen-desk.ensures.heard c.in-Ok.done c.work.new.cabinet c.work.new.tray c.in-Ok.ensures.done c.settle.new.self room n.taken (n.after c.work.new.tray);
-      by_line = heard_once line.meaning line.hears line.drops line.mends line.laws c.args.self.now c.listen-desk.new.self q c.args.at c.args.minute c.args.act c.listen-desk.result c.listen-desk.ensures.rest c.cabinet-cabinet.result (c.cabinet-cabinet.ensures q) c.desk-desk.result (c.desk-desk.ensures q) c.hears-now.result c.hears-now.ensures c.listen-desk.ensures.heard c.in-Ok.done c.work.new.cabinet c.work.new.tray c.in-Ok.ensures.done c.settle.new.self room n.taken (n.after c.work.new.tray) n.quiet;
+      ruled = done_act line.meaning line.hears line.drops line.mends line.laws c.args.self.now c.listen-desk.new.self q c.args.at c.args.minute c.args.act c.listen-desk.result c.listen-desk.ensures.rest c.cabinet-cabinet.result (c.cabinet-cabinet.ensures q) c.desk-desk.result (c.desk-desk.ensures q) c.hears_now.result c.hears_now.ensures c.listen-desk.ensures.heard c.in-Ok.done c.work.new.cabinet c.work.new.tray c.in-Ok.ensures.done c.settle.new.self room n.taken (n.after c.work.new.tray);
+      by_line = heard_once line.meaning line.hears line.drops line.mends line.laws c.args.self.now c.listen-desk.new.self q c.args.at c.args.minute c.args.act c.listen-desk.result c.listen-desk.ensures.rest c.cabinet-cabinet.result (c.cabinet-cabinet.ensures q) c.desk-desk.result (c.desk-desk.ensures q) c.hears_now.result c.hears_now.ensures c.listen-desk.ensures.heard c.in-Ok.done c.work.new.cabinet c.work.new.tray c.in-Ok.ensures.done c.settle.new.self room n.taken (n.after c.work.new.tray) n.quiet;
       tray_kept = c.work.ensures.kept;
       refused = λ y. absurd (false≢true (sym y));
       same_line = n.same_line ∙ c.listen-desk.ensures.rest.same_line;

@@ -13,7 +13,7 @@ returns-then-eq c = same_live c.args.of (items c.args.tray.now) c.loop-at.at c.i
 pub loop-at-preserved : goal.loop-at-preserved
 loop-at-preserved c = elim c.match-get.branch [
   | in-Some+else-eq w ↦ passed_by c.args.of (items c.args.tray.now) c.loop-at.at w.in-Some.paper (sym w.in-Some.is ∙ c.get.ensures) w.if-eq.ensures ∙ c.loop-at.invariant
-  | in-default w ↦ past_all c.args.of (items c.args.tray.now) c.loop-at.at (sym w.in-default.is ∙ c.get.ensures) ∙ c.loop-at.invariant
+  | in-default w ↦ past_all c.args.of (items c.args.tray.now) c.loop-at.at (sym w.in_default.is ∙ c.get.ensures) ∙ c.loop-at.invariant
 ]
 
 pub returns : goal.returns

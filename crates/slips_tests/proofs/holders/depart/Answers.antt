@@ -5,6 +5,6 @@ use Rattle.slips_tests.proofs.holders.depart.Goals as goal
 pub done-requires : goal.done-requires
 done-requires g c =
     let line = g.L.Line in
-    let slip = c.in-ok-slip.slip in
-    let ripe = c.issue.ensures.ripe slip c.in-ok-slip.was in
+    let slip = c.in_ok-slip.slip in
+    let ripe = c.issue.ensures.ripe slip c.in_ok-slip.was in
     ripe_ends line.meaning line.hears line.drops line.mends c.issue.new.section c.depart-answer.new.section c.issue.new.tray c.depart-answer.new.tray slip 5 departs c.depart-answer.result c.depart-answer.ensures ripe

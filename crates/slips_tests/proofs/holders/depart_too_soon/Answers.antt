@@ -7,8 +7,8 @@ use Rattle.slips_tests.proofs.holders.depart_too_soon.Goals as goal
 pub done-requires : goal.done-requires
 done-requires g c =
     let line = g.L.Line in
-    let slip = c.in-ok-slip.slip in
-    let ripe = c.issue.ensures.ripe slip c.in-ok-slip.was in
+    let slip = c.in_ok-slip.slip in
+    let ripe = c.issue.ensures.ripe slip c.in_ok-slip.was in
     let back = c.in-Back.back in
     let same = back_unaltered line.meaning line.hears line.drops line.mends c.issue.new.section c.depart.new.section c.issue.new.tray c.depart.new.tray slip 4 departs c.depart.result c.depart.ensures c.in-Err.unspent c.in-Err.is back c.in-Back.fault c.in-Back.is in
     let still = ripe_still line.meaning line.hears line.drops line.mends c.issue.new.section c.depart.new.section c.issue.new.tray c.depart.new.tray slip 5 departs same.1 ripe in

@@ -22,7 +22,7 @@ eight n extent old e l = grind (arith, nat_tests)
 pub returns : goal.returns
 returns c =
     let q = c.args.queue.now in
-    let told = c.set-room.ensures in
+    let told = c.set_room.ensures in
     let none = is_empty q c.requires in
     let wide : 8 ≤ length (places q) = omega (arith, has_room q c.requires, q.sound.0) in
     record {

@@ -6,5 +6,5 @@ use Rattle.section.proofs.desk.Desk.issue.Goals as goal
 
 pub put-requires : goal.put-requires
 put-requires c =
-    let f : leb (min c.args.self.now.size (room_of c.args.tray.now)) (length (items c.args.tray.now)) ≡ false = sym (ap (λ g. g.tray_full) c.sight-sight.ensures) ∙ c.in-ok-paper.ensures.room in
+    let f : leb (min c.args.self.now.size (room_of c.args.tray.now)) (length (items c.args.tray.now)) ≡ false = sym (ap (λ g. g.tray_full) c.sight-sight.ensures) ∙ c.in_ok-paper.ensures.room in
     omega (arith, leb-false _ _ f)
