@@ -11,8 +11,8 @@ import sys
 
 DECLARED = re.compile(r"^ *(?:abbrev |unfoldable |pub )*(?:data |record )?(«?[^\s:(){}«»]+»?)(?: [^:]*)? :(?: |$)")
 WORDS = {"use", "where", "--", "let", "in", "λ", "|"}
-# names that a rule would make fall together with another name of the file
-EXCEPTIONS = {}
+# names that a rule would turn wrongly
+EXCEPTIONS = {"length-of": "length_of"}
 
 
 def files(*patterns):
