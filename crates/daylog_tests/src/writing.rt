@@ -13,9 +13,12 @@ fn two_calls_byte_for_byte(rt: HostRuntime) -> Result<(), Fail> {
     let front = [
         2, 1, 0, 4, 2, 0, 24, 1, 2, 3, 255, 3, 1, 1, 2, 3, 4, 5, 6, 7, 8, 9, 10,
     ];
-    assert!(rt; &space[0..23] == &front);
-    assert!(rt; &space[23..35] == &[255; 12]);
-    assert!(rt; &space[35..40] == &[99; 5], "what is behind the log stays");
+    assert!(rt; &space[0..23] == front.as_slice());
+    assert!(rt; &space[23..35] == [255; 12].as_slice());
+    assert!(rt;
+        &space[35..40] == [99; 5].as_slice(),
+        "what is behind the log stays"
+    );
     let (making, calls) = read(&space[0..35])?;
     assert_eq!(rt; making_fields(making), Some(MAKING));
     assert_eq!(rt; call_at(calls, 0), Some(FIRST));
@@ -32,7 +35,7 @@ fn too_little_space(rt: HostRuntime) {
     assert_eq!(rt; write(&MAKING, &[], &mut space[0..10]), none);
     assert!(rt; space == [99; 35], "a refusal writes nothing");
     assert_eq!(rt; write(&MAKING, &[], &mut space[0..11]), Ok(11));
-    assert!(rt; &space[0..11] == &[2, 1, 0, 4, 2, 0, 0, 1, 2, 3, 255]);
+    assert!(rt; &space[0..11] == [2, 1, 0, 4, 2, 0, 0, 1, 2, 3, 255].as_slice());
 }
 
 #[test]

@@ -138,7 +138,8 @@ fn stutter(rt: HostRuntime) -> Result<(), Fail> {
     let mut line = Stutter::new();
     fill(&rt, &mut line, Station::A, 1);
     assert_eq!(rt; line.hear(Station::A), Some(ask(0)));
-    hear_all(&rt, &mut line, Station::A, 1).note("every other hearing is said again")?;
+    // every other hearing is said again
+    hear_all(&rt, &mut line, Station::A, 1)?;
     fill(&rt, &mut line, Station::A, 1);
     fill(&rt, &mut line, Station::B, 1);
     drop_it(&rt, &mut line);
