@@ -4,7 +4,7 @@ use Rattle.std.proofs.lemmas.List.{append-nil, map_push}
 use Rattle.std.proofs.lemmas.Bool.{and_parts, cases_Bool, eq-eqb, eqb-true}
 use Rattle.std.proofs.lemmas.Bool.Decides.{nat_tests}
 use Rattle.vocabulary.specs.declared.station.Station.{Station}
-use Rattle.rules.specs.History.{Name, departure, made, name, of_station, one_more_if, same_name, those, times}
+use Rattle.rules.specs.History.{Name, name, of_station, one_more_if, same_name, those, times}
 use Rattle.rules.specs.Safety.{In, name_of}
 use Rattle.rules.specs.Tray.{departed_at, same_station}
 use Rattle.rules.specs.declared.paper.Paper.{Paper}
