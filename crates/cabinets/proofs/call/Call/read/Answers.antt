@@ -7,13 +7,13 @@ pub returns-in_err-kind : goal.returns-in_err-kind
 unfolding call_from
 returns-in_err-kind c = search rules
 
-pub returns-in_err-at : goal.returns-in_err-at
+pub returns-in_err-at-in_default : goal.returns-in_err-at-in_default
 unfolding call_from
-returns-in_err-at c = search rules
+returns-in_err-at-in_default c = search rules
 
-pub returns-in_err-act : goal.returns-in_err-act
+pub returns-in_err-act-in_default : goal.returns-in_err-act-in_default
 unfolding call_from
-returns-in_err-act c = search rules
+returns-in_err-act-in_default c = search rules
 
 pub returns-in-DropLine : goal.returns-in-DropLine
 unfolding call_from
@@ -23,6 +23,6 @@ pub returns-in-MendLine : goal.returns-in-MendLine
 unfolding call_from
 returns-in-MendLine c = search rules
 
-pub returns-in_ok-act : goal.returns-in_ok-act
+pub returns-in_ok-act-in_default : goal.returns-in_ok-act-in_default
 unfolding call_from
-returns-in_ok-act c = search rules
+returns-in_ok-act-in_default c = search rules
