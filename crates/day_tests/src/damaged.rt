@@ -3,6 +3,7 @@ use crate::play::*;
 use day::{DayError, run_day};
 use std::alloc::{AllocError, Global};
 use std::process::Abort;
+use std::test::Fail;
 
 // A making's track, line, running time and tray, and the number and the place of the fault that refuses it; two zeros where it is sound.
 type MakingRow = (u8, u8, u8, u8, (u8, usize));
@@ -144,7 +145,7 @@ fn a_log_of_a_making_alone(rt: HostRuntime) -> Result<(), Fail> {
     assert_eq!(rt; day.made.running_time, 240);
     assert_eq!(rt; day.made.tray, 64);
     assert_eq!(rt; day.turns.len(), 0);
-    ends_with(&rt, &day, [0, 0, 0, 0, 0, 0, 0, 0, 0]);
+    ends_with(&rt, "a making alone", &day, [0, 0, 0, 0, 0, 0, 0, 0, 0]);
     Ok(())
 }
 

@@ -1,5 +1,6 @@
 // Whole days, over both lines and both kinds of track, and what one lost call does.
 use crate::play::*;
+use std::test::Fail;
 
 // B asks for train 42; A accepts, and gives away the right. The train is on its way when the telephone drops, and A, gone dead, is refused a permit.
 const MORNING: [Row; 9] = [

@@ -1,5 +1,6 @@
 // Dead working: refusals 20, 24 and 25, passes, and what going dead empties.
 use crate::play::*;
+use std::test::Fail;
 
 // Two trains of A on their way, an interval of 15 minutes apart; the first arrives.
 const WORKED: [Row; 7] = [

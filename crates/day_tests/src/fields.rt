@@ -1,5 +1,6 @@
 // Refusals 12 and 13: fields out of bounds, unused fields that are not 0, and minutes before the clock.
 use crate::play::*;
+use std::test::Fail;
 
 // Refusal 12. Nothing of all this is carried out, so that at the end the line is still up and the first record number is 1.
 const BAD_FIELDS: [Row; 82] = [

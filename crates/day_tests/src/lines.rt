@@ -1,5 +1,6 @@
 // Both lines: refusal 28, what a drop loses, and what may wait.
 use crate::play::*;
+use std::test::Fail;
 
 // Refusal 28 over the telephone, which holds one message each way.
 const PHONE_REFUSES: [Row; 38] = [

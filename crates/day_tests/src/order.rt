@@ -20,6 +20,7 @@
 // - issue 16-21: a station with a paper in hand had the right at its issue and keeps it until the paper departs; the other lacks it and can teach no higher number.
 // - issue 23-24: the one is for telephone working, the other for dead working.
 use crate::play::*;
+use std::test::Fail;
 
 // 13 before 14, 14 before 15.
 const ON_ONE_WAY: [Row; 11] = [

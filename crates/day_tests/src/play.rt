@@ -98,37 +98,35 @@ pub(crate) fn plays(
     rows: &[Row],
     end: [u32; 9],
 ) -> Result<(), Fail> {
-    played(rt, heap, making, rows, end).note(name)
-}
-
-fn played(
-    rt: &impl Abort,
-    heap: Global,
-    making: &MakingFields,
-    rows: &[Row],
-    end: [u32; 9],
-) -> Result<(), Fail> {
     let calls = calls_of(heap, rows)?;
     let mut space = vec![in heap; 0; LONGEST]?;
     let length = write(making, calls.as_slice(), space.as_mut_slice())?;
-    assert!(rt; length <= space.len());
+    assert!(rt; length <= space.len(), "{name}");
     let day = replayed(heap, &space.as_slice()[0..length])?;
-    assert_eq!(rt; day.made.track as u8, making.track);
-    assert_eq!(rt; day.made.running_time, u32::from(making.running_time));
-    assert_eq!(rt; day.made.tray, usize::from(making.tray));
-    assert_eq!(rt; day.turns.len(), rows.len());
+    assert_eq!(rt; day.made.track as u8, making.track, "{name}");
+    assert_eq!(rt;
+        day.made.running_time,
+        u32::from(making.running_time),
+        "{name}"
+    );
+    assert_eq!(rt; day.made.tray, usize::from(making.tray), "{name}");
+    assert_eq!(rt; day.turns.len(), rows.len(), "{name}");
     let mut place = FIRST_PLACE;
     for (row, seen) in rows.iter().zip(day.turns.iter()) {
-        assert_eq!(rt; seen.place, place);
-        assert_eq!(rt; seen.fields, fields_of(row));
+        assert_eq!(rt; seen.place, place, "{name}");
+        assert_eq!(rt;
+            seen.fields,
+            fields_of(row),
+            "{name}: the call at byte {place}"
+        );
         assert_eq!(rt;
             answer_seen(&seen.answer),
             answer_wanted(row, place),
-            "the call at byte {place}"
+            "{name}: the call at byte {place}"
         );
         place = place.wrapping_add(CALL_BYTES);
     }
-    ends_with(rt, &day, end);
+    ends_with(rt, name, &day, end);
     Ok(())
 }
 
@@ -145,18 +143,20 @@ pub(crate) fn replayed(heap: Global, log: &[u8]) -> Result<DayReport, Fail> {
     }
 }
 
-// Compares a report's end with the nine numbers of its line.
-pub(crate) fn ends_with(rt: &impl Abort, day: &DayReport, end: [u32; 9]) {
+// Compares a report's end with the nine numbers of its line. A failure says the name.
+pub(crate) fn ends_with(rt: &impl Abort, name: &str, day: &DayReport, end: [u32; 9]) {
     let a = day.end.a;
     let b = day.end.b;
-    assert_eq!(rt; day.end.live, end[0] as usize);
+    assert_eq!(rt; day.end.live, end[0] as usize, "{name}");
     assert_eq!(rt;
         [a.issued, a.cancelled, a.set_back, a.taken],
-        [end[1], end[2], end[3], end[4]]
+        [end[1], end[2], end[3], end[4]],
+        "{name}: at A"
     );
     assert_eq!(rt;
         [b.issued, b.cancelled, b.set_back, b.taken],
-        [end[5], end[6], end[7], end[8]]
+        [end[5], end[6], end[7], end[8]],
+        "{name}: at B"
     );
 }
 

@@ -1,6 +1,7 @@
 // Record numbers: one row of them for accept, report and release, from 1 each day, and refusal 26 after 999.
 use crate::play::*;
 use std::alloc::AllocError;
+use std::test::Fail;
 
 // Day 0 ends with minute 1,439.
 const CHANGE_OF_DAY: [Row; 27] = [

@@ -1,5 +1,6 @@
 // Refusals 14 to 18, 20, 22 and 23, each for every call that can meet it, and what the same call does when nothing bars it.
 use crate::play::*;
+use std::test::Fail;
 
 // Refusal 14.
 const NOT_ONE_WAY: [Row; 21] = [

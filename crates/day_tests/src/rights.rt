@@ -1,5 +1,6 @@
 // The right to send: refusal 21, releases, what is learnt from messages and papers, acceptances by count, and set back.
 use crate::play::*;
+use std::test::Fail;
 
 // Refusal 21. A's number is 0 at the making, so A has the right and B has not.
 const NO_RIGHT: [Row; 17] = [

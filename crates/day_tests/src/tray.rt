@@ -1,6 +1,7 @@
 // Refusal 27: a full tray. Only in dead working can a station meet it.
 use crate::play::*;
 use std::alloc::{AllocError, Global};
+use std::test::Fail;
 
 // A tray of 1.
 const ONE_PAPER: [Row; 14] = [
