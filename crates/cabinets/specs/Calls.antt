@@ -6,7 +6,6 @@ use Rattle.vocabulary.specs.declared.fields.CallFields.{CallFields}
 use Rattle.vocabulary.specs.declared.fields.CallKind.{CallKind}
 use Rattle.vocabulary.specs.declared.fields.CallKind.TheVariants as kind
 use Rattle.vocabulary.specs.declared.station.Station.{Station}
-use Rattle.vocabulary.specs.declared.number.Serial.{Serial}
 pub use Rattle.cabinets.specs.declared.call.Act.{Act}
 pub use Rattle.cabinets.specs.declared.call.Act.TheVariants.{Ask as ask, Accept as accept, Issue as issue, Depart as depart, Cancel as cancel, Arrive as arrive, SetBack as set_back, Report as report, Release as release, Hear as hear, DeclareDead as declare_dead, Resume as resume}
 pub use Rattle.cabinets.specs.declared.call.Call.{Call}

@@ -4,7 +4,7 @@ use Rattle.std.proofs.lemmas.List.{append-nil, map_push}
 use Rattle.std.proofs.lemmas.Bool.{and_parts, cases_Bool, eq-eqb, eqb-true}
 use Rattle.std.proofs.lemmas.Bool.Decides.{nat_tests}
 use Rattle.vocabulary.specs.declared.station.Station.{Station}
-use Rattle.law.specs.History.{Name, departure, made, name, of_station, one_more_if, same_name, those, times}
+use Rattle.law.specs.History.{Name, name, of_station, one_more_if, same_name, those, times}
 use Rattle.law.specs.Safety.{In, name_of}
 use Rattle.cabinets.specs.Tray.{departed_at, same_station}
 use Rattle.cabinets.specs.declared.paper.Paper.{Paper}

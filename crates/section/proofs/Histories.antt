@@ -1,7 +1,7 @@
 -- That a call over any line makes a run longer.
-use Rattle.std.proofs.Common.{◌≡◌, ℕ, Bool, true, false, ◌&&◌, List, [], ◌∷◌, is_ok, Some, None, Ok, Err, Option, Result, sym, refl, ap, ◌∙◌, subst, arith}
+use Rattle.std.proofs.Common.{◌≡◌, ℕ, true, ◌∷◌, is_ok, Some, None, Option, Result, sym, refl, ap, ◌∙◌, subst}
 use Rattle.line.specs.Laws.{Laws}
-use Rattle.line.specs.Meaning.{Heard, Meaning, waits, with_waits}
+use Rattle.line.specs.Meaning.{Heard, Meaning, with_waits}
 use Rattle.line.specs.declared.message.Message.{Message}
 use Rattle.queue.specs.declared.Queue.{Queue}
 use Rattle.vocabulary.specs.declared.fault.CallFault.{CallFault}
@@ -10,8 +10,7 @@ use Rattle.vocabulary.specs.declared.fields.CallFields.{CallFields}
 use Rattle.vocabulary.specs.declared.station.Station.{Station}
 use Rattle.vocabulary.specs.declared.station.Station.TheVariants.{A, B}
 use Rattle.cabinets.specs.Calls.{call_from}
-use Rattle.law.specs.History.{History}
-use Rattle.cabinets.specs.Outcome.{Choice, Outcome, call_answer, call_refusal, judged, left, marked, outcome_of, section_after}
+use Rattle.cabinets.specs.Outcome.{call_refusal, judged, left, outcome_of}
 use Rattle.law.specs.Runs.{KeepsMeaning, MayChoose, Run, then_called}
 use Rattle.cabinets.specs.Section.{Section as Situation}
 use Rattle.cabinets.specs.declared.call.Act.{Act}
@@ -20,8 +19,8 @@ use Rattle.cabinets.specs.declared.call.Call.{Call}
 use Rattle.cabinets.specs.declared.call.Call.TheVariants as call
 use Rattle.cabinets.specs.declared.paper.Paper.{Paper}
 use Rattle.law.proofs.Invariant.{every_run_one_right, every_run_safe}
-use Rattle.section.specs.Called.{Comes, LineDid, chosen, is_hear, outward}
-use Rattle.section.specs.Running.{Goes_on, Longer, event}
+use Rattle.section.specs.Called.{Comes, LineDid, chosen, is_hear}
+use Rattle.section.specs.Running.{Goes_on, event}
 use Rattle.section.specs.State.{state}
 use Rattle.section.specs.declared.Section.{Section}
 

@@ -1,5 +1,5 @@
 -- An act over any line: from what the line, the desk and the tray did to what the rules say.
-use Rattle.std.proofs.Common.{◌≡◌, ℕ, min, Bool, true, false, cond, not, ◌&&◌, ltb, List, [], ◌∷◌, ◌++◌, is_some, Some, None, Ok, Err, Option, Result, sym, refl, ap, ◌∙◌, subst, ⊎_elim, arith}
+use Rattle.std.proofs.Common.{◌≡◌, ℕ, min, Bool, true, false, not, ◌&&◌, ltb, [], ◌∷◌, ◌++◌, is_some, Some, None, Ok, Err, Option, Result, sym, refl, ap, ◌∙◌, subst, ⊎_elim, arith}
 use Rattle.std.proofs.lemmas.Bool.{and_left, and_parts, cases_Bool, true≢false}
 use Rattle.line.specs.Laws.{Laws}
 use Rattle.line.specs.Meaning.{Meaning, can_post, waits, with_waits}

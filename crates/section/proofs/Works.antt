@@ -1,6 +1,6 @@
 -- That a station's work, and what it then posts or hears, is what the rules say of its act.
 use Rattle.std.proofs.Common.{◌≡◌, ℕ, Bool, true, false, cond, not, ◌&&◌, ltb, List, [], ◌∷◌, ◌++◌, IfOk, Some, None, Ok, Err, Option, Result, sym, refl, ap, ◌∙◌, arith}
-use Rattle.std.proofs.lemmas.Bool.{and_parts, not-true}
+use Rattle.std.proofs.lemmas.Bool.{not-true}
 use Rattle.line.specs.Meaning.{Meaning, can_post, waits, with_waits}
 use Rattle.line.specs.declared.message.Message.{Message}
 use Rattle.vocabulary.specs.Stations.{opposite}
@@ -11,9 +11,9 @@ use Rattle.vocabulary.specs.declared.station.Station.{Station}
 use Rattle.vocabulary.specs.declared.station.Station.TheVariants.{A, B}
 use Rattle.cabinets.specs.Acts.{done}
 use Rattle.cabinets.specs.Effects.{answer_of, here_after, inbox_after, posts, tray_after}
-use Rattle.cabinets.specs.Outcome.{Choice, Outcome, judged, left, outcome_of, section_after}
+use Rattle.cabinets.specs.Outcome.{Choice, judged, left, outcome_of, section_after}
 use Rattle.cabinets.specs.Refusals.{Test, refusal, refuse}
-use Rattle.cabinets.specs.Section.{Section as Situation, View, cabinet, seen}
+use Rattle.cabinets.specs.Section.{Section as Situation, View, seen}
 use Rattle.cabinets.specs.Tests.{accept_tests, arrive_tests, ask_tests, cannot_post, declare_dead_tests, hear_tests, in_hand_tests, issue_tests, release_tests, report_tests, resume_tests, set_back_tests, sight_of, tests}
 use Rattle.cabinets.specs.Tray.{has_live, oldest, youngest}
 use Rattle.cabinets.specs.declared.cabinet.Cabinet.{Cabinet}
@@ -21,10 +21,9 @@ use Rattle.cabinets.specs.declared.call.Act.{Act}
 use Rattle.cabinets.specs.declared.call.Act.TheVariants as act
 use Rattle.cabinets.specs.declared.call.Call.TheVariants as call
 use Rattle.cabinets.specs.declared.paper.Paper.{Paper}
-use Rattle.section.specs.Called.{chosen, is_hear}
+use Rattle.section.specs.Called.{is_hear}
 use Rattle.section.specs.State.{settled}
 use Rattle.section.specs.Work.{Worked, changing, desk, handling, putting, saying, taking, working}
-use Rattle.section.specs.declared.desk.Desk.{Desk}
 use Rattle.section.specs.declared.desk.Done.{Done}
 
 -- what holds of every value holds of an answer

@@ -1,5 +1,5 @@
 -- What a station does at its desk: at its cabinet and in the tray, with what came over the line. What it has to say is left to be posted.
-use Rattle.std.specs.Prelude.{ℕ, min, List, [], ◌∷◌, ◌++◌, length, Some, None, Ok, Err, Option, Result, nat_le}
+use Rattle.std.specs.Prelude.{ℕ, List, [], ◌∷◌, ◌++◌, length, Some, None, Ok, Err, Option, Result, nat_le}
 use Rattle.line.specs.declared.message.Message.{Message}
 use Rattle.vocabulary.specs.declared.fault.CallFault.{CallFault}
 use Rattle.vocabulary.specs.declared.number.Serial.{Serial}

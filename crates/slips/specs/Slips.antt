@@ -4,7 +4,6 @@ use Rattle.line.specs.Meaning.{Meaning}
 use Rattle.line.specs.declared.message.Message.{Message}
 use Rattle.queue.specs.Model.{items}
 use Rattle.queue.specs.declared.Queue.{Queue}
-use Rattle.vocabulary.specs.declared.fault.CallFault.{CallFault}
 use Rattle.vocabulary.specs.declared.fault.CallFault.TheVariants as why
 use Rattle.vocabulary.specs.declared.fault.Fault.{Fault}
 use Rattle.vocabulary.specs.declared.fault.Fault.TheVariants as fault

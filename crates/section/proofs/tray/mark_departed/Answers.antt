@@ -1,5 +1,5 @@
 -- The youngest paper is taken and put back departed.
-use Rattle.std.proofs.Common.{sym, ap, ◌∙◌, arith}
+use Rattle.std.proofs.Common.{◌∙◌, arith}
 use Rattle.queue.specs.Model.{items, room_of}
 use Rattle.section.proofs.Trays.{departs}
 use Rattle.section.proofs.tray.mark_departed.Goals as goal
