@@ -3,7 +3,8 @@
 
 A definition, a field, a constructor and a lemma are in snake case, a type and a fact in upper camel case. A lemma on the
 length of something keeps the dash behind `length`. Names from src/ and from the libraries stay, and so do the names of
-goals. The must-fail edits and the planted ones are respelled alike. Run at the top: python3 tools/respell.py
+goals. The must-fail edits and the planted ones are respelled alike; texts and comments stay. Run at the top:
+python3 tools/respell.py
 """
 import glob
 import re
@@ -48,7 +49,8 @@ def respelled(name):
 def main():
     pairs = {n: respelled(n) for n in declared() if re.fullmatch(r"[A-Za-z][\w'-]*", n) and "-" in n}
     pairs = {old: new for old, new in pairs.items() if old != new}
-    token = re.compile(r"(?<![\w'-])[A-Za-z][\w']*(?:-[\w'ℕ*]+)+(?![\w'-])")
+    kept = r'"(?:[^"\\\n]|\\.)*"|//[^\n]*|(?m:(?:^|(?<=\s))--\s[^\n]*)'
+    token = re.compile(kept + r"|(?<![\w'-])[A-Za-z][\w']*(?:-[\w'ℕ*]+)+(?![\w'-])")
     for path in files("crates/*/specs/**/*.antt", "crates/*/proofs/**/*.antt", "crates/*/src/**/*.rt",
                       "crates/*/must-fail/*.edit", "planted/*/*.edit"):
         text = open(path).read()

@@ -16,13 +16,13 @@ fn odd_values_are_numbers(rt: HostRuntime) -> Result<(), Fail> {
     };
     assert_eq!(rt;
         making_line(heap, &odd)?.as_str(),
-        "making track 2 line 255 running_time 0 tray 0"
+        "making track 2 line 255 running-time 0 tray 0"
     );
     let line = "23 255 station 255 minute 4294967295 number 4294967295 nature 255 pass 255";
     assert_eq!(rt; call_line(heap, 23, &LARGEST)?.as_str(), line);
     assert_eq!(rt;
         total_line(heap, 0, false)?.as_str(),
-        "calls 0 written_again other"
+        "calls 0 written-again other"
     );
     Ok(())
 }

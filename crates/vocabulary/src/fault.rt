@@ -55,7 +55,7 @@ pub enum CallFault {
     // The paper at that end of the tray is not the one named.
     NotThatPaper = 18,
     OwnPaperLive = 19,
-    // Set back of a dead_working paper that carries no number.
+    // Set back of a dead-working paper that carries no number.
     NoNumberCarried = 20,
     NoRight = 21,
     TrainsOut = 22,
