@@ -20,7 +20,7 @@ use Rattle.cabinets.specs.declared.call.Call.TheVariants as call
 use Rattle.cabinets.specs.declared.paper.Paper.{Paper}
 use Rattle.law.proofs.Invariant.{every_run_one_right, every_run_safe}
 use Rattle.section.specs.Called.{Comes, LineDid, chosen, is_hear}
-use Rattle.section.specs.Running.{Goes_on, event}
+use Rattle.section.specs.Running.{GoesOn, event}
 use Rattle.section.specs.State.{state}
 use Rattle.section.specs.declared.Section.{Section}
 
@@ -61,7 +61,7 @@ module _ {L : Type 0} (m : L → Meaning) (hears : L → Station → Option Mess
         record { mark_is = refl; left_a = rw e k.left_a; left_b = rw e k.left_b; most_is = refl }
 
   -- a run goes on
-  pub goes_on : (f : CallFields) (r : Result ℕ Fault) (s s' : Section L) (q q' : Queue Paper) → Comes m hears drops mends (call_from f) r s s' q q' → Goes_on f r (state m s q) (state m s' q')
+  pub goes_on : (f : CallFields) (r : Result ℕ Fault) (s s' : Section L) (q q' : Queue Paper) → Comes m hears drops mends (call_from f) r s s' q q' → GoesOn f r (state m s q) (state m s' q')
   goes_on f r s s' q q' c h run =
       let l = s.line.now in
       let l' = s'.line.now in

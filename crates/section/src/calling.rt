@@ -5,7 +5,7 @@ ghost use Rattle.cabinets.specs.Outcome.{outcome_of};
 ghost use Rattle.cabinets.specs.declared.call.Act.TheVariants as act;
 ghost use Rattle.cabinets.specs.declared.call.Call.TheVariants as call;
 ghost use Rattle.section.specs.Called.{Comes, LineDid, chosen, outward};
-ghost use Rattle.section.specs.Running.{Goes_on};
+ghost use Rattle.section.specs.Running.{GoesOn};
 ghost use Rattle.section.specs.State.{TrayKept, state};
 
 use super::Section;
@@ -24,7 +24,7 @@ impl<'l, L: Line> Section<'l, L> {
     // Any call, by the six fields that a log writes.
     pub fn call(&mut self, tray: &mut Queue<'_, Paper>, fields: &CallFields) -> Result<u32, Fault>
         ensures comes { Comes L.Line.meaning L.Line.hears L.Line.drops L.Line.mends (call_from fields.now) result self.old self.new tray.old tray.new }
-        ensures safe { Goes_on fields.now result (state L.Line.meaning self.old tray.old) (state L.Line.meaning self.new tray.new) }
+        ensures safe { GoesOn fields.now result (state L.Line.meaning self.old tray.old) (state L.Line.meaning self.new tray.new) }
     {
         let call = Call::read(fields);
         self.answer(tray, call)

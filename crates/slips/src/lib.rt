@@ -8,27 +8,15 @@ use vocabulary::station::Station;
 mod issuing;
 mod spending;
 
-// The slip of one paper, by its station and its serial. Only an issue makes one, and it cannot be copied.
+// The slip of one paper, by its station and its serial. Only an issue makes one; it can neither be copied nor let go, since
+// it derives neither `Copy` nor `Drop`.
 pub struct Slip {
     station: Station,
     serial: Serial,
 }
 
 // Why a slip was not spent. It comes back, unless its paper is no longer in hand: then it ends.
-#[derive(Drop)]
 pub enum Unspent {
     Back(Slip, Fault),
     Ended(Fault),
-}
-
-// A slip may not be let go: what this asks is never true.
-impl Drop for Slip {
-    fn drop(self)
-        requires { ⊥ }
-    {
-        let Slip {
-            station: _,
-            serial: _,
-        } = self;
-    }
 }

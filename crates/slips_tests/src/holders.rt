@@ -133,6 +133,6 @@ fn done(answer: Result<Serial, Unspent>) -> Result<Serial, Fault>
     match answer {
         Ok(serial) => Ok(serial),
         Err(Unspent::Ended(fault)) => Err(fault),
-        Err(Unspent::Back(_, fault)) => Err(fault),
+        Err(Unspent::Back(_slip, _fault)) => unreachable!(),
     }
 }
