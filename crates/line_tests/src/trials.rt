@@ -138,7 +138,11 @@ fn stutter(rt: HostRuntime) -> Result<(), Fail> {
     let mut line = Stutter::new();
     fill(&rt, &mut line, Station::A, 1);
     assert_eq!(rt; line.hear(Station::A), Some(ask(0)));
-    // every other hearing is said again
+    assert_eq!(rt;
+        line.waiting(Station::A),
+        1,
+        "every other hearing is said again"
+    );
     hear_all(&rt, &mut line, Station::A, 1)?;
     fill(&rt, &mut line, Station::A, 1);
     fill(&rt, &mut line, Station::B, 1);
