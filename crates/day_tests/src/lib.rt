@@ -1,4 +1,5 @@
-// Trials of a day replayed from its log: every refusal that a log can meet, the order of the refusals, and whole days.
+// Trials of a day replayed from its log: every refusal that a log can meet, the order of the refusals, and whole days; and a
+// caller, proved from the contract of the replay alone.
 //
 // What no log can meet, and why:
 //
@@ -13,6 +14,7 @@
 // - 27 in telephone working: a full tray holds papers of this station, which are then out (22), or of the other one, and then the right is not here (21).
 #![tactic(auto)]
 
+pub mod caller;
 #[cfg(test)]
 mod damaged;
 #[cfg(test)]

@@ -1,6 +1,7 @@
 // Holders of a slip, over any line. Each issues a paper at A, and is done with its slip in the end.
 ghost use Rattle.std.specs.Prelude.{◌≡◌, false};
 ghost use Rattle.slips.specs.Slips.{comes_back};
+ghost use Rattle.slips_tests.specs.Ended.{ended};
 
 use cabinets::paper::Paper;
 use cabinets::track::Nature;
@@ -126,9 +127,10 @@ pub(crate) fn depart_elsewhere<L: Line>(
     }
 }
 
-// The answer to a slip that did not come back.
+// The answer to a slip that did not come back: its serial, or why it ended.
 fn done(answer: Result<Serial, Unspent>) -> Result<Serial, Fault>
     requires { comes_back answer ≡ false }
+    ensures { result ≡ ended answer }
 {
     match answer {
         Ok(serial) => Ok(serial),

@@ -1,7 +1,6 @@
 // Trials of slips. Each holder of a slip is proved not to let it go.
 #![tactic(auto)]
 
-#[cfg(test)]
 mod holders;
 #[cfg(test)]
 mod trials;
