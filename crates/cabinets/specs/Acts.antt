@@ -1,11 +1,12 @@
 -- What each act answers at its cabinet, and the cabinet afterwards. Whether a message can be posted is not a cabinet's to know: the four acts that post answer the message.
 use Rattle.std.specs.Prelude.{ℕ, Bool, Some, None, Ok, Err, Option, Result}
 use Rattle.line.specs.declared.message.Message.{Message}
+use Rattle.line.specs.declared.message.MessageKind.{MessageKind}
 use Rattle.vocabulary.specs.declared.fault.CallFault.{CallFault}
 use Rattle.vocabulary.specs.declared.number.Serial.{Serial}
 use Rattle.vocabulary.specs.declared.station.Station.{Station}
 use Rattle.cabinets.specs.Cabinets.{with_clock, with_working}
-use Rattle.cabinets.specs.Effects.{acceptance_message, accepted, ask_message, asked, came_number, cancelled_one, gone_dead, heard, issued_one, paper_for, release_message, released, report_message, risen, sent, took, took_back}
+use Rattle.cabinets.specs.Effects.{acceptance_message, accepted, ask_message, asked, came_kind, cancelled_one, gone_dead, heard, issued_one, paper_for, release_message, released, report_message, risen, sent, took, took_back}
 use Rattle.cabinets.specs.Records.{with_next_record}
 use Rattle.cabinets.specs.Refusals.{refusal}
 use Rattle.cabinets.specs.Tests.{accept_tests, arrive_tests, ask_tests, declare_dead_tests, hear_tests, in_hand_tests, issue_tests, release_tests, report_tests, resume_tests, set_back_tests}
@@ -14,7 +15,7 @@ use Rattle.cabinets.specs.declared.cabinet.Cabinet.{Cabinet}
 use Rattle.cabinets.specs.declared.paper.Paper.{Paper}
 use Rattle.cabinets.specs.declared.paper.Working.TheVariants.{Telephone}
 use Rattle.cabinets.specs.declared.sight.Sight.{Sight}
-use Rattle.cabinets.specs.declared.track.Nature.{Nature}
+use Rattle.vocabulary.specs.declared.kind.Nature.{Nature}
 
 -- an act carried out; or refused, and then the cabinet is as it was
 abbrev pub done : {R : Type 0} → Option CallFault → R → Cabinet → Cabinet → Result R CallFault × Cabinet
@@ -57,8 +58,8 @@ abbrev pub releasing : Station → ℕ → Sight → Cabinet → Result Message 
 releasing x minute g c =
     done (refusal (release_tests x minute c g)) (release_message minute c (released x minute (with_clock minute c))) (released x minute (with_clock minute c)) c
 
-abbrev pub hearing : ℕ → Option Message → Cabinet → Result ℕ CallFault × Cabinet
-hearing minute came c = done (refusal (hear_tests minute c)) (came_number came) (heard came (with_clock minute c)) c
+abbrev pub hearing : ℕ → Option Message → Cabinet → Result (Option MessageKind) CallFault × Cabinet
+hearing minute came c = done (refusal (hear_tests minute c)) (came_kind came) (heard came (with_clock minute c)) c
 
 abbrev pub declaring_dead : ℕ → Bool → Cabinet → Result (Unit {0}) CallFault × Cabinet
 declaring_dead minute up c = done (refusal (declare_dead_tests minute c up)) tt (gone_dead (with_clock minute c)) c

@@ -1,6 +1,7 @@
 -- The fourteen calls, and how the fields of a call are read.
 use Rattle.std.specs.Prelude.{ℕ, Bool, true, false, cond, ◌&&◌, Some, None, Option, ◌==◌, nat_le}
 use Rattle.vocabulary.specs.Calls.{call_of}
+use Rattle.vocabulary.specs.Kinds.{nature_of}
 use Rattle.vocabulary.specs.Stations.{station_of}
 use Rattle.vocabulary.specs.declared.fields.CallFields.{CallFields}
 use Rattle.vocabulary.specs.declared.fields.CallKind.{CallKind}
@@ -10,13 +11,9 @@ pub use Rattle.cabinets.specs.declared.call.Act.{Act}
 pub use Rattle.cabinets.specs.declared.call.Act.TheVariants.{Ask as ask, Accept as accept, Issue as issue, Depart as depart, Cancel as cancel, Arrive as arrive, SetBack as set_back, Report as report, Release as release, Hear as hear, DeclareDead as declare_dead, Resume as resume}
 pub use Rattle.cabinets.specs.declared.call.Call.{Call}
 pub use Rattle.cabinets.specs.declared.call.Call.TheVariants.{Act as act, DropLine as drop_line, MendLine as mend_line}
-use Rattle.cabinets.specs.declared.track.Nature.{Nature}
-use Rattle.cabinets.specs.declared.track.Nature.TheVariants.{Ordinary, WorkingInSection, Rescue, Returning, RadioFailed}
+use Rattle.vocabulary.specs.declared.kind.Nature.{Nature}
 
-abbrev pub nature_of : ℕ → Option Nature
-nature_of n =
-    cond (n == 0) (Some Ordinary) (cond (n == 1) (Some WorkingInSection) (cond (n == 2) (Some Rescue) (cond (n == 3) (Some Returning) (cond (n == 4) (Some RadioFailed) None))))
-
+-- a pass is 0 or 1
 abbrev pub pass_of : ℕ → Option Bool
 pass_of n = cond (n == 0) (Some false) (cond (n == 1) (Some true) None)
 

@@ -194,6 +194,11 @@ kind_number kind.Acceptance = 2
 kind_number kind.Report = 3
 kind_number kind.Release = 4
 
+-- the kind of what came, if anything did
+abbrev pub came_kind : Option Message → Option MessageKind
+came_kind None = None
+came_kind (Some m) = Some m.kind
+
 -- what hearing answers: the message's kind, or 0 for none
 abbrev pub came_number : Option Message → ℕ
 came_number None = 0

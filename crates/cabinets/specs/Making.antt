@@ -7,8 +7,8 @@ use Rattle.cabinets.specs.Cabinets.{new_cabinet}
 use Rattle.cabinets.specs.Calls.{within}
 use Rattle.cabinets.specs.Refusals.{Test, refusal, refuse}
 use Rattle.cabinets.specs.Section.{Section}
-use Rattle.cabinets.specs.declared.track.TrackKind.{TrackKind}
-use Rattle.cabinets.specs.declared.track.TrackKind.TheVariants.{Single, OneWay}
+use Rattle.vocabulary.specs.declared.kind.TrackKind.{TrackKind}
+use Rattle.vocabulary.specs.declared.kind.TrackKind.TheVariants.{Single, OneWay}
 
 -- what a section is made of: the number of its track's kind, the running time, the tray's size and the space lent for it, whether the line has the space that its kind wants, and the line
 pub record Making : Type 0 where

@@ -15,8 +15,8 @@ use Rattle.cabinets.specs.declared.cabinet.Acceptance.{Acceptance}
 use Rattle.cabinets.specs.declared.cabinet.Cabinet.{Cabinet}
 use Rattle.cabinets.specs.declared.paper.Paper.{Paper}
 use Rattle.cabinets.specs.declared.sight.Sight.{Sight}
-use Rattle.cabinets.specs.declared.track.Nature.{Nature}
-use Rattle.cabinets.specs.declared.track.Nature.TheVariants.{Ordinary, WorkingInSection, Rescue, Returning, RadioFailed}
+use Rattle.vocabulary.specs.declared.kind.Nature.{Nature}
+use Rattle.vocabulary.specs.declared.kind.Nature.TheVariants.{Ordinary, WorkingInSection, Rescue, Returning, RadioFailed}
 use Rattle.cabinets.specs.declared.track.Track.{Track}
 
 -- dead working here
@@ -63,25 +63,28 @@ nothing_to_release x c = not (is_some c.open_ask) && (not (is_some c.acceptance)
 abbrev pub cannot_post : View → Bool
 cannot_post v = not (v.up && nat_lt (length v.outbox) v.most)
 
--- The tests of each act at a minute, by the cabinet that makes it and what its station sees. The four acts that post have one test more: the line is tried last of all.
-abbrev pub ask_tests : ℕ → Cabinet → Sight → List (Test CallFault)
-ask_tests minute c g =
+-- what an ask, an acceptance and a release begin with: each is a word over the line, on a single track, in telephone working, with no paper in hand
+abbrev pub line_work_tests : ℕ → Cabinet → Sight → List (Test CallFault)
+line_work_tests minute c g =
     refuse fault.Clock (nat_lt minute c.clock)
     ∷ refuse fault.OneWay (is_one_way g.track.kind)
     ∷ refuse fault.Working (dead c)
     ∷ refuse fault.PaperInHand g.in_hand
-    ∷ refuse fault.TrainsOut (trains_out c)
+    ∷ []
+
+-- The tests of each act at a minute, by the cabinet that makes it and what its station sees. The four acts that post have one test more: the line is tried last of all.
+abbrev pub ask_tests : ℕ → Cabinet → Sight → List (Test CallFault)
+ask_tests minute c g =
+    line_work_tests minute c g
+    ++ refuse fault.TrainsOut (trains_out c)
     ∷ refuse fault.Acceptance (is_some c.acceptance)
     ∷ refuse fault.NumbersUsedUp (nat_le 999_999 c.asks)
     ∷ []
 
 abbrev pub accept_tests : Station → ℕ → Cabinet → Sight → List (Test CallFault)
 accept_tests x minute c g =
-    refuse fault.Clock (nat_lt minute c.clock)
-    ∷ refuse fault.OneWay (is_one_way g.track.kind)
-    ∷ refuse fault.Working (dead c)
-    ∷ refuse fault.PaperInHand g.in_hand
-    ∷ refuse fault.NothingThere (not (is_some c.ask_heard))
+    line_work_tests minute c g
+    ++ refuse fault.NothingThere (not (is_some c.ask_heard))
     ∷ refuse fault.TrainsOut (trains_out c)
     ∷ refuse fault.Acceptance (is_some c.acceptance)
     ∷ refuse fault.NumbersUsedUp (records_used_up minute c || (has_right x c && right_at_end c))
@@ -134,11 +137,8 @@ report_tests minute c =
 
 abbrev pub release_tests : Station → ℕ → Cabinet → Sight → List (Test CallFault)
 release_tests x minute c g =
-    refuse fault.Clock (nat_lt minute c.clock)
-    ∷ refuse fault.OneWay (is_one_way g.track.kind)
-    ∷ refuse fault.Working (dead c)
-    ∷ refuse fault.PaperInHand g.in_hand
-    ∷ refuse fault.NothingThere (nothing_to_release x c)
+    line_work_tests minute c g
+    ++ refuse fault.NothingThere (nothing_to_release x c)
     ∷ refuse fault.TrainsOut (trains_out c)
     ∷ refuse fault.NumbersUsedUp (records_used_up minute c || (b_has_right x c && right_at_end c))
     ∷ []

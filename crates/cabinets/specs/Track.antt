@@ -1,8 +1,8 @@
 -- The track: how it is worked, and how far apart trains are kept on it.
 use Rattle.std.specs.Prelude.{ℕ, ◌+◌, ◌/◌, max, Bool, true, false}
 use Rattle.cabinets.specs.declared.track.Track.{Track}
-use Rattle.cabinets.specs.declared.track.TrackKind.{TrackKind}
-use Rattle.cabinets.specs.declared.track.TrackKind.TheVariants.{Single, OneWay}
+use Rattle.vocabulary.specs.declared.kind.TrackKind.{TrackKind}
+use Rattle.vocabulary.specs.declared.kind.TrackKind.TheVariants.{Single, OneWay}
 
 -- a track that is worked from A to B alone
 abbrev pub is_one_way : TrackKind → Bool

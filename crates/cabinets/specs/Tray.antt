@@ -1,5 +1,6 @@
 -- The tray: the live papers in order of issue, the oldest first.
-use Rattle.std.specs.Prelude.{ℕ, Bool, true, false, not, ◌&&◌, ◌||◌, List, [], ◌∷◌, is_some, Some, None, Option, ◌==◌}
+use Rattle.std.specs.Prelude.{ℕ, Bool, true, false, not, ◌&&◌, List, [], ◌∷◌, is_some, Some, None, Option, ◌==◌}
+use Rattle.std.specs.List.{list_any}
 use Rattle.vocabulary.specs.declared.number.RightNumber.{RightNumber}
 use Rattle.vocabulary.specs.declared.station.Station.{Station}
 use Rattle.vocabulary.specs.declared.station.Station.TheVariants.{A, B}
@@ -70,8 +71,7 @@ is_out x n (Some p) = same_station p.station x && (is_some p.departed && p.seria
 
 -- some paper of a station is live
 abbrev pub has_live : Station → List Paper → Bool
-has_live x [] = false
-has_live x (p ∷ ps) = same_station p.station x || has_live x ps
+has_live x ps = list_any (λ p. same_station p.station x) ps
 
 abbrev pub is_dead : Working → Bool
 is_dead Telephone = false

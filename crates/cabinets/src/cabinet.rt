@@ -3,27 +3,28 @@ use crate::paper::Working;
 use vocabulary::number::{RecordNumber, RightNumber};
 
 // An ask: the train, and which ask of its station it is.
-#[derive(Clone, Copy)]
+#[derive(Clone, Copy, PartialEq, Eq, Debug)]
 pub struct Ask {
     pub train: u32,
     pub count: u32,
 }
 
 // An acceptance held: the train, and the record number under which the other station accepted it.
-#[derive(Clone, Copy)]
+#[derive(Clone, Copy, PartialEq, Eq, Debug)]
 pub struct Acceptance {
     pub train: u32,
     pub record: RecordNumber,
 }
 
 // A line of the day's record: the number taken, and the day.
-#[derive(Clone, Copy)]
+#[derive(Clone, Copy, PartialEq, Eq, Debug)]
 pub struct RecordEntry {
     pub record: RecordNumber,
     pub day: u32,
 }
 
-#[derive(Clone, Copy)]
+// In which nothing has happened yet by default.
+#[derive(Clone, Copy, PartialEq, Eq, Debug, Default)]
 pub struct Cabinet {
     // The minute of the last call carried out.
     pub clock: u32,

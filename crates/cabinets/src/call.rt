@@ -1,20 +1,20 @@
 // The fourteen calls.
 ghost use Rattle.std.specs.Prelude.{◌≡◌};
-ghost use Rattle.cabinets.specs.Calls.{act_of, bare, call_from, checked_call, in_bounds, line_call, nature_of, no_issue, pass_of, plain};
+ghost use Rattle.cabinets.specs.Calls.{act_of, bare, by_station, call_from, checked_call, in_bounds, line_call, no_issue, pass_of, plain};
 
-use crate::track::Nature;
 use vocabulary::fields::{CallFields, CallKind};
+use vocabulary::kind::{Nature, Pass};
 use vocabulary::number::Serial;
 use vocabulary::station::Station;
 
 // The latest minute.
-const LAST_MINUTE: u32 = 1_000_000_000;
+pub const LAST_MINUTE: u32 = 1_000_000_000;
 
 // The greatest train number.
 const LAST_TRAIN: u32 = 99_999;
 
 // The greatest serial.
-const LAST_SERIAL: u32 = 9_999;
+pub(crate) const LAST_SERIAL: u32 = 9_999;
 
 // What a station can do.
 #[derive(Clone, Copy)]
@@ -55,24 +55,32 @@ impl Call {
     }
 
     // The call that its fields give; none where a field is out of bounds, or unused and not 0.
+    #[tactic(auto, unfolding(crate::specs::Calls::call_from))]
     pub fn read(fields: &CallFields) -> Option<Call>
         ensures { result ≡ call_from fields.now }
     {
-        let kind = CallKind::of_byte(fields.call)?;
+        let kind = CallKind::try_from(fields.call).ok()?;
         match kind {
             CallKind::DropLine => line_call(Call::DropLine, fields),
             CallKind::MendLine => line_call(Call::MendLine, fields),
-            _ => {
-                let at = Station::of_byte(fields.station)?;
-                let act = Act::read(kind, fields)?;
-                Call::new(at, fields.minute, act)
-            }
+            _ => Call::by_station(kind, fields),
         }
     }
 }
 
+impl Call {
+    // A call that is a station's act; none where the station is neither, or a field of the act is not sound.
+    fn by_station(kind: CallKind, fields: &CallFields) -> Option<Call>
+        ensures { result ≡ by_station kind fields.now }
+    {
+        let at = Station::try_from(fields.station).ok()?;
+        let act = Act::read(kind, fields)?;
+        Call::new(at, fields.minute, act)
+    }
+}
+
 impl Act {
-    // The act that a call's fields give; none where the nature or the pass is out of bounds, or a field is unused and not 0.
+    // The act that a call's fields give, each by its own test of the fields that it does not use; none where the nature or the pass is out of bounds, or a field is unused and not 0.
     fn read(kind: CallKind, fields: &CallFields) -> Option<Act>
         ensures { result ≡ act_of kind fields.now }
     {
@@ -80,7 +88,7 @@ impl Act {
             CallKind::Ask => plain(Act::Ask(fields.number), fields),
             CallKind::Accept => bare(Act::Accept, fields),
             CallKind::Issue => {
-                let nature = Nature::of_byte(fields.nature)?;
+                let nature = Nature::try_from(fields.nature).ok()?;
                 let pass = pass_of(fields.pass)?;
                 Some(Act::Issue(fields.number, nature, pass))
             }
@@ -102,10 +110,8 @@ impl Act {
         ensures { result ≡ in_bounds self.now }
     {
         match self {
-            Act::Ask(train) => 1 <= *train && *train <= LAST_TRAIN,
-            Act::Issue(train, _, _) => 1 <= *train && *train <= LAST_TRAIN,
-            Act::Arrive(serial) => 1 <= serial.0 && serial.0 <= LAST_SERIAL,
-            Act::SetBack(serial) => 1 <= serial.0 && serial.0 <= LAST_SERIAL,
+            Act::Ask(train) | Act::Issue(train, _, _) => (1..=LAST_TRAIN).contains(train),
+            Act::Arrive(serial) | Act::SetBack(serial) => (1..=LAST_SERIAL).contains(&serial.0),
             _ => true,
         }
     }
@@ -147,13 +153,9 @@ fn is_no_issue(fields: &CallFields) -> bool
     fields.nature == 0 && fields.pass == 0
 }
 
-// A pass is 0 or 1.
+// Whether the right goes with a train, by the byte for it.
 fn pass_of(byte: u8) -> Option<bool>
     ensures { result ≡ pass_of byte }
 {
-    match byte {
-        0 => Some(false),
-        1 => Some(true),
-        _ => None,
-    }
+    Some(Pass::try_from(byte).ok()? == Pass::Yes)
 }

@@ -1,13 +1,14 @@
 // What a cabinet does at each of its station's calls. Each call sets the clock first; a refusal leaves the cabinet as it was.
+// The station, the minute and what a call names are plain parameters, by the rule of the project that a cabinet's calls take plain numbers.
 ghost use Rattle.std.specs.Prelude.{◌≡◌, false, OnOk};
 ghost use Rattle.cabinets.specs.Acts.{accepting, arriving, asking, cancelling, declaring_dead, departing, hearing, issuing, releasing, reporting, resuming, setting_back};
 
 use crate::cabinet::{Ask, Cabinet};
 use crate::paper::{Paper, Working, carried, is_out, serial};
 use crate::sight::Sight;
-use crate::track::Nature;
 use line::message::{Message, MessageKind};
 use vocabulary::fault::CallFault;
+use vocabulary::kind::Nature;
 use vocabulary::number::{RecordNumber, RightNumber, Serial};
 use vocabulary::station::Station;
 
@@ -16,9 +17,7 @@ impl Cabinet {
     pub fn ask(&mut self, minute: u32, train: u32, sight: &Sight) -> Result<Message, CallFault>
         ensures { (result, self.new) ≡ asking minute train sight.now self.old }
     {
-        if let Some(fault) = self.ask_fault(minute, sight) {
-            return Err(fault);
-        }
+        self.check_ask(minute, sight)?;
         self.clock = minute;
         self.asks += 1;
         self.open_ask = Some(Ask {
@@ -39,9 +38,7 @@ impl Cabinet {
     pub fn accept(&mut self, at: Station, minute: u32, sight: &Sight) -> Result<Message, CallFault>
         ensures { (result, self.new) ≡ accepting at minute sight.now self.old }
     {
-        if let Some(fault) = self.accept_fault(at, minute, sight) {
-            return Err(fault);
-        }
+        self.check_accept(at, minute, sight)?;
         self.clock = minute;
         if self.has_right(at) {
             self.right = RightNumber(self.right.0 + 1);
@@ -72,9 +69,7 @@ impl Cabinet {
         ensures paper { (result, self.new) ≡ issuing at minute train nature pass sight.now self.old }
         ensures room { OnOk result (sight.now.tray_full ≡ false) }
     {
-        if let Some(fault) = self.issue_fault(at, minute, train, nature, pass, sight) {
-            return Err(fault);
-        }
+        self.check_issue(at, minute, train, nature, pass, sight)?;
         let paper = self.paper(at, train, pass, sight);
         self.clock = minute;
         self.issued += 1;
@@ -92,9 +87,7 @@ impl Cabinet {
     ) -> Result<Serial, CallFault>
         ensures { (result, self.new) ≡ departing at minute youngest self.old }
     {
-        if let Some(fault) = self.in_hand_fault(at, minute, youngest) {
-            return Err(fault);
-        }
+        self.check_in_hand(at, minute, youngest)?;
         self.clock = minute;
         self.last_departure = Some(minute);
         self.gone = self.gone.saturating_add(1);
@@ -104,7 +97,7 @@ impl Cabinet {
         Ok(serial(youngest))
     }
 
-    // Cancels the youngest paper, which is in hand.
+    // Cancels the youngest paper, which is in hand. It begins as a departure does, by one test, and does something else.
     pub fn cancel(
         &mut self,
         at: Station,
@@ -113,9 +106,7 @@ impl Cabinet {
     ) -> Result<Serial, CallFault>
         ensures { (result, self.new) ≡ cancelling at minute youngest self.old }
     {
-        if let Some(fault) = self.in_hand_fault(at, minute, youngest) {
-            return Err(fault);
-        }
+        self.check_in_hand(at, minute, youngest)?;
         self.clock = minute;
         self.cancelled = self.cancelled.saturating_add(1);
         Ok(serial(youngest))
@@ -157,9 +148,7 @@ impl Cabinet {
     ) -> Result<Serial, CallFault>
         ensures { (result, self.new) ≡ setting_back at minute number.0 youngest self.old }
     {
-        if let Some(fault) = self.set_back_fault(at, minute, number, youngest) {
-            return Err(fault);
-        }
+        self.check_set_back(at, minute, number, youngest)?;
         self.clock = minute;
         self.gone = self.gone.saturating_sub(1);
         self.set_back = self.set_back.saturating_add(1);
@@ -195,9 +184,7 @@ impl Cabinet {
     pub fn release(&mut self, at: Station, minute: u32, sight: &Sight) -> Result<Message, CallFault>
         ensures { (result, self.new) ≡ releasing at minute sight.now self.old }
     {
-        if let Some(fault) = self.release_fault(at, minute, sight) {
-            return Err(fault);
-        }
+        self.check_release(at, minute, sight)?;
         self.clock = minute;
         self.open_ask = None;
         self.acceptance = None;
@@ -216,20 +203,21 @@ impl Cabinet {
     }
 
     // Hears what came over the line, if anything did; its kind is the answer.
-    pub fn hear(&mut self, minute: u32, came: Option<Message>) -> Result<u32, CallFault>
+    pub fn hear(
+        &mut self,
+        minute: u32,
+        came: Option<Message>,
+    ) -> Result<Option<MessageKind>, CallFault>
         ensures { (result, self.new) ≡ hearing minute came self.old }
     {
         if minute < self.clock {
             return Err(CallFault::Clock);
         }
         self.clock = minute;
-        match came {
-            Some(message) => {
-                self.note(&message);
-                Ok(message.kind as u32)
-            }
-            None => Ok(0),
+        if let Some(message) = &came {
+            self.note(message);
         }
+        Ok(came.map(|message| message.kind))
     }
 
     // Declares dead working, with the line as it is.

@@ -1,98 +1,101 @@
 // How a cabinet stands: why it refuses a call, and what it does within one.
-ghost use Rattle.std.specs.Prelude.{◌≡◌, ◌<◌, false, ◌&&◌, None};
+ghost use Rattle.std.specs.Prelude.{◌≡◌, ◌<◌, false, ◌&&◌, None, OnOk};
+ghost use Rattle.std.specs.Result.{result_err};
 ghost use Rattle.cabinets.specs.Cabinets.{with_ask_heard};
 ghost use Rattle.cabinets.specs.Effects.{acceptance_heard, heard_as, heard_count, heard_train, is_ticket, paper_for, paper_record};
 ghost use Rattle.cabinets.specs.Records.{next_record, records_used_up, taken_on, with_next_record};
 ghost use Rattle.cabinets.specs.Refusals.{refusal};
 ghost use Rattle.cabinets.specs.Rights.{b_has_right, has_right, learnt, learnt_from, right_at_end};
-ghost use Rattle.cabinets.specs.Tests.{accept_tests, accepted_for, ask_tests, carries, dead, in_hand_tests, issue_tests, nothing_to_release, release_tests, set_back_tests, too_soon, trains_out};
+ghost use Rattle.cabinets.specs.Tests.{accept_tests, accepted_for, ask_tests, barred_when_dead, carries, dead, in_hand_tests, issue_tests, line_work_tests, nothing_to_release, release_tests, set_back_tests, too_soon, trains_out};
 
 use crate::cabinet::{Acceptance, Ask, Cabinet, RecordEntry};
+use crate::call::LAST_SERIAL;
 use crate::paper::{Paper, PaperKind, Working, is_in_hand, is_out, is_plain_dead};
 use crate::sight::Sight;
-use crate::track::{Nature, Track};
+use crate::track::Track;
 use line::message::{Message, MessageKind};
 use vocabulary::fault::CallFault;
+use vocabulary::kind::Nature;
 use vocabulary::number::{RecordNumber, RightNumber, Serial};
 use vocabulary::station::Station;
 
 // The greatest numbers.
 const MOST_ASKS: u32 = 999_999;
 
-const LAST_SERIAL: u32 = 9_999;
-
 const LAST_RECORD: u32 = 999;
 
-const LAST_RIGHT: u32 = 1_000_000_000;
+const LAST_RIGHT: RightNumber = RightNumber(1_000_000_000);
 
 // The minutes of a day.
 const DAY: u32 = 1_440;
 
 impl Cabinet {
-    // Why an ask is refused.
-    pub(crate) fn ask_fault(&self, minute: u32, sight: &Sight) -> Option<CallFault>
-        ensures value { result ≡ refusal (ask_tests minute self.now sight.now) }
-        ensures few { result ≡ None → self.now.asks < 999_999 }
+    // The tests that an ask, an acceptance and a release begin with.
+    fn check_line_work(&self, minute: u32, sight: &Sight) -> Result<(), CallFault>
+        ensures { result_err result ≡ refusal (line_work_tests minute self.now sight.now) }
     {
         if minute < self.clock {
-            return Some(CallFault::Clock);
+            return Err(CallFault::Clock);
         }
         if sight.track.is_one_way() {
-            return Some(CallFault::OneWay);
+            return Err(CallFault::OneWay);
         }
         if self.is_dead() {
-            return Some(CallFault::Working);
+            return Err(CallFault::Working);
         }
         if sight.in_hand {
-            return Some(CallFault::PaperInHand);
+            return Err(CallFault::PaperInHand);
         }
+        Ok(())
+    }
+
+    // Why an ask is refused.
+    pub(crate) fn check_ask(&self, minute: u32, sight: &Sight) -> Result<(), CallFault>
+        ensures value { result_err result ≡ refusal (ask_tests minute self.now sight.now) }
+        ensures few { OnOk result (self.now.asks < 999_999) }
+    {
+        self.check_line_work(minute, sight)?;
         if self.trains_out() {
-            return Some(CallFault::TrainsOut);
+            return Err(CallFault::TrainsOut);
         }
         if self.acceptance.is_some() {
-            return Some(CallFault::Acceptance);
+            return Err(CallFault::Acceptance);
         }
         if self.asks >= MOST_ASKS {
-            return Some(CallFault::NumbersUsedUp);
+            return Err(CallFault::NumbersUsedUp);
         }
-        None
+        Ok(())
     }
 
     // Why an acceptance is refused.
-    pub(crate) fn accept_fault(&self, at: Station, minute: u32, sight: &Sight) -> Option<CallFault>
-        ensures value { result ≡ refusal (accept_tests at minute self.now sight.now) }
-        ensures records { result ≡ None → records_used_up minute self.now ≡ false }
-        ensures right { result ≡ None → (has_right at self.now && right_at_end self.now) ≡ false }
+    pub(crate) fn check_accept(
+        &self,
+        at: Station,
+        minute: u32,
+        sight: &Sight,
+    ) -> Result<(), CallFault>
+        ensures value { result_err result ≡ refusal (accept_tests at minute self.now sight.now) }
+        ensures records { OnOk result (records_used_up minute self.now ≡ false) }
+        ensures right { OnOk result ((has_right at self.now && right_at_end self.now) ≡ false) }
     {
-        if minute < self.clock {
-            return Some(CallFault::Clock);
-        }
-        if sight.track.is_one_way() {
-            return Some(CallFault::OneWay);
-        }
-        if self.is_dead() {
-            return Some(CallFault::Working);
-        }
-        if sight.in_hand {
-            return Some(CallFault::PaperInHand);
-        }
+        self.check_line_work(minute, sight)?;
         if self.ask_heard.is_none() {
-            return Some(CallFault::NothingThere);
+            return Err(CallFault::NothingThere);
         }
         if self.trains_out() {
-            return Some(CallFault::TrainsOut);
+            return Err(CallFault::TrainsOut);
         }
         if self.acceptance.is_some() {
-            return Some(CallFault::Acceptance);
+            return Err(CallFault::Acceptance);
         }
         if self.records_used_up(minute) || (self.has_right(at) && self.right_at_end()) {
-            return Some(CallFault::NumbersUsedUp);
+            return Err(CallFault::NumbersUsedUp);
         }
-        None
+        Ok(())
     }
 
     // Why an issue is refused.
-    pub(crate) fn issue_fault(
+    pub(crate) fn check_issue(
         &self,
         at: Station,
         minute: u32,
@@ -100,128 +103,122 @@ impl Cabinet {
         nature: Nature,
         pass: bool,
         sight: &Sight,
-    ) -> Option<CallFault>
-        ensures value { result ≡ refusal (issue_tests at minute train nature pass self.now sight.now) }
-        ensures few { result ≡ None → self.now.issued < 9_999 }
-        ensures room { result ≡ None → sight.now.tray_full ≡ false }
-        ensures right { result ≡ None → (carries at pass self.now && right_at_end self.now) ≡ false }
+    ) -> Result<(), CallFault>
+        ensures value { result_err result ≡ refusal (issue_tests at minute train nature pass self.now sight.now) }
+        ensures few { OnOk result (self.now.issued < 9_999) }
+        ensures room { OnOk result (sight.now.tray_full ≡ false) }
+        ensures right { OnOk result ((carries at pass self.now && right_at_end self.now) ≡ false) }
     {
         let dead = self.is_dead();
         let one_way = sight.track.is_one_way();
         if minute < self.clock {
-            return Some(CallFault::Clock);
+            return Err(CallFault::Clock);
         }
         if one_way && pass {
-            return Some(CallFault::OneWay);
+            return Err(CallFault::OneWay);
         }
         if !dead && pass {
-            return Some(CallFault::Working);
+            return Err(CallFault::Working);
         }
         if sight.in_hand {
-            return Some(CallFault::PaperInHand);
+            return Err(CallFault::PaperInHand);
         }
         if !self.has_right(at) {
-            return Some(CallFault::NoRight);
+            return Err(CallFault::NoRight);
         }
         if !dead && self.trains_out() {
-            return Some(CallFault::TrainsOut);
+            return Err(CallFault::TrainsOut);
         }
         if !dead && !one_way && !self.is_accepted(train) {
-            return Some(CallFault::Acceptance);
+            return Err(CallFault::Acceptance);
         }
-        if dead && nature.is_barred_when_dead() {
-            return Some(CallFault::Nature);
+        if dead && is_barred_when_dead(nature) {
+            return Err(CallFault::Nature);
         }
         if dead && self.is_too_soon(minute, &sight.track) {
-            return Some(CallFault::Interval);
+            return Err(CallFault::Interval);
         }
         if self.issued >= LAST_SERIAL || (self.carries(at, pass) && self.right_at_end()) {
-            return Some(CallFault::NumbersUsedUp);
+            return Err(CallFault::NumbersUsedUp);
         }
         if sight.tray_full {
-            return Some(CallFault::TrayFull);
+            return Err(CallFault::TrayFull);
         }
-        None
+        Ok(())
     }
 
     // Why a departure or a cancellation is refused.
-    pub(crate) fn in_hand_fault(
+    pub(crate) fn check_in_hand(
         &self,
         at: Station,
         minute: u32,
         youngest: Option<Paper>,
-    ) -> Option<CallFault>
-        ensures { result ≡ refusal (in_hand_tests at minute self.now youngest) }
+    ) -> Result<(), CallFault>
+        ensures { result_err result ≡ refusal (in_hand_tests at minute self.now youngest) }
     {
         if minute < self.clock {
-            return Some(CallFault::Clock);
+            return Err(CallFault::Clock);
         }
         if !is_in_hand(youngest, at) {
-            return Some(CallFault::NothingThere);
+            return Err(CallFault::NothingThere);
         }
-        None
+        Ok(())
     }
 
     // Why a paper is not set back.
-    pub(crate) fn set_back_fault(
+    pub(crate) fn check_set_back(
         &self,
         at: Station,
         minute: u32,
         number: Serial,
         youngest: Option<Paper>,
-    ) -> Option<CallFault>
-        ensures { result ≡ refusal (set_back_tests at minute number.0 self.now youngest) }
+    ) -> Result<(), CallFault>
+        ensures { result_err result ≡ refusal (set_back_tests at minute number.0 self.now youngest) }
     {
         if minute < self.clock {
-            return Some(CallFault::Clock);
+            return Err(CallFault::Clock);
         }
         if is_in_hand(youngest, at) {
-            return Some(CallFault::PaperInHand);
+            return Err(CallFault::PaperInHand);
         }
         if !is_out(youngest, at, number) {
-            return Some(CallFault::NotThatPaper);
+            return Err(CallFault::NotThatPaper);
         }
         if is_plain_dead(youngest) {
-            return Some(CallFault::NoNumberCarried);
+            return Err(CallFault::NoNumberCarried);
         }
-        None
+        Ok(())
     }
 
     // Why a release is refused.
-    pub(crate) fn release_fault(&self, at: Station, minute: u32, sight: &Sight) -> Option<CallFault>
-        ensures value { result ≡ refusal (release_tests at minute self.now sight.now) }
-        ensures records { result ≡ None → records_used_up minute self.now ≡ false }
-        ensures right { result ≡ None → (b_has_right at self.now && right_at_end self.now) ≡ false }
+    pub(crate) fn check_release(
+        &self,
+        at: Station,
+        minute: u32,
+        sight: &Sight,
+    ) -> Result<(), CallFault>
+        ensures value { result_err result ≡ refusal (release_tests at minute self.now sight.now) }
+        ensures records { OnOk result (records_used_up minute self.now ≡ false) }
+        ensures right { OnOk result ((b_has_right at self.now && right_at_end self.now) ≡ false) }
     {
-        if minute < self.clock {
-            return Some(CallFault::Clock);
-        }
-        if sight.track.is_one_way() {
-            return Some(CallFault::OneWay);
-        }
-        if self.is_dead() {
-            return Some(CallFault::Working);
-        }
-        if sight.in_hand {
-            return Some(CallFault::PaperInHand);
-        }
+        self.check_line_work(minute, sight)?;
         if self.has_nothing_to_release(at) {
-            return Some(CallFault::NothingThere);
+            return Err(CallFault::NothingThere);
         }
         if self.trains_out() {
-            return Some(CallFault::TrainsOut);
+            return Err(CallFault::TrainsOut);
         }
         if self.records_used_up(minute) || (self.b_has_right(at) && self.right_at_end()) {
-            return Some(CallFault::NumbersUsedUp);
+            return Err(CallFault::NumbersUsedUp);
         }
-        None
+        Ok(())
     }
 
     // Whether the working is dead.
     pub(crate) fn is_dead(&self) -> bool
         ensures { result ≡ dead self.now }
     {
-        matches!(self.working, Working::Dead)
+        self.working == Working::Dead
     }
 
     // Whether some papers gone are not known to be handed in.
@@ -255,34 +252,30 @@ impl Cabinet {
     fn right_at_end(&self) -> bool
         ensures { result ≡ right_at_end self.now }
     {
-        self.right.0 >= LAST_RIGHT
+        self.right >= LAST_RIGHT
     }
 
     // Whether an acceptance is held for a train.
     fn is_accepted(&self, train: u32) -> bool
         ensures { result ≡ accepted_for train self.now }
     {
-        match self.acceptance {
-            Some(acceptance) => acceptance.train == train,
-            None => false,
-        }
+        self.acceptance
+            .is_some_and(|acceptance| acceptance.train == train)
     }
 
     // Whether a minute is before the last departure and the interval.
     fn is_too_soon(&self, minute: u32, track: &Track) -> bool
         ensures { result ≡ too_soon minute track.now self.now }
     {
-        match self.last_departure {
-            Some(departure) => (minute as u64) < departure as u64 + track.interval(),
-            None => false,
-        }
+        self.last_departure.is_some_and(|departure| (minute as u64)
+            < departure as u64 + track.interval())
     }
 
     // Whether a paper takes the right with it: it is passed, or B issues it in telephone working.
     fn carries(&self, at: Station, pass: bool) -> bool
         ensures { result ≡ carries at pass self.now }
     {
-        pass || (matches!(at, Station::B) && !self.is_dead())
+        pass || (at == Station::B && !self.is_dead())
     }
 
     // Whether there is no open ask, no acceptance, and not B with the right.
@@ -296,10 +289,9 @@ impl Cabinet {
     fn taken_on(&self, day: u32) -> u32
         ensures { result ≡ taken_on day self.now.last_record }
     {
-        match self.last_record {
-            Some(entry) => { if entry.day == day { entry.record.0 } else { 0 } }
-            None => 0,
-        }
+        self.last_record
+            .filter(|entry| entry.day == day)
+            .map_or(0, |entry| entry.record.0)
     }
 
     // Whether the day's record numbers are used up.
@@ -327,10 +319,7 @@ impl Cabinet {
         ensures count { result.count ≡ heard_count self.old.ask_heard }
         ensures after { self.new ≡ with_ask_heard None self.old }
     {
-        match self.ask_heard.take() {
-            Some(ask) => ask,
-            None => Ask { train: 0, count: 0 },
-        }
+        self.ask_heard.take().unwrap_or(Ask { train: 0, count: 0 })
     }
 
     // The paper that an issue makes.
@@ -338,11 +327,9 @@ impl Cabinet {
         requires { (self.now.issued < 9_999) × ((carries at pass self.now && right_at_end self.now) ≡ false) }
         ensures { result ≡ paper_for at train pass sight.now.track self.now }
     {
-        let carried = if self.carries(at, pass) {
-            Some(RightNumber(self.right.0 + 1))
-        } else {
-            None
-        };
+        let carried = self
+            .carries(at, pass)
+            .then(|| RightNumber(self.right.0 + 1));
         let kind = if self.is_ticket(train) {
             PaperKind::Ticket
         } else {
@@ -371,34 +358,29 @@ impl Cabinet {
     fn paper_record(&self, train: u32, track: &Track) -> RecordNumber
         ensures { result ≡ paper_record train track.now self.now }
     {
-        match self.acceptance {
-            Some(acceptance) if acceptance.train == train => return acceptance.record,
-            _ => {}
+        if let Some(acceptance) = self.acceptance
+            && acceptance.train == train
+        {
+            return acceptance.record;
         }
         if !track.is_one_way() || !self.is_ticket(train) {
             return RecordNumber(0);
         }
-        match self.last_arrival {
-            Some(record) => record,
-            None => RecordNumber(0),
-        }
+        self.last_arrival.unwrap_or(RecordNumber(0))
     }
 
     // Learns the number that a paper carries.
     pub(crate) fn learn_from(&mut self, carried: Option<RightNumber>)
         ensures { self.new ≡ learnt_from carried self.old }
     {
-        match carried {
-            Some(right) => self.learn(right),
-            None => self.learn(RightNumber(0)),
-        }
+        self.learn(carried.unwrap_or(RightNumber(0)));
     }
 
     // Learns a right number: a higher one replaces the cabinet's own, and all papers gone are then known to be handed in.
     fn learn(&mut self, right: RightNumber)
         ensures { self.new ≡ learnt right.0 self.old }
     {
-        if self.right.0 < right.0 {
+        if self.right < right {
             self.right = right;
             self.known = self.gone;
         }
@@ -435,15 +417,24 @@ impl Cabinet {
     fn note_acceptance(&mut self, message: &Message)
         ensures { self.new ≡ acceptance_heard message.now self.old }
     {
-        match self.open_ask {
-            Some(ask) if ask.count == message.count => {
-                self.acceptance = Some(Acceptance {
-                    train: message.train,
-                    record: message.record,
-                });
-                self.open_ask = None;
-            }
-            _ => {}
+        if let Some(ask) = self.open_ask
+            && ask.count == message.count
+        {
+            self.acceptance = Some(Acceptance {
+                train: message.train,
+                record: message.record,
+            });
+            self.open_ask = None;
         }
     }
+}
+
+// Whether no train of a nature is sent in dead working: three of the five, which no derive tells apart.
+fn is_barred_when_dead(nature: Nature) -> bool
+    ensures { result ≡ barred_when_dead nature }
+{
+    matches!(
+        nature,
+        Nature::WorkingInSection | Nature::Returning | Nature::RadioFailed
+    )
 }

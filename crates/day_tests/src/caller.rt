@@ -24,12 +24,12 @@ mod tests {
     #[test]
     fn a_turn_for_each_call(rt: HostRuntime) -> Result<(), Fail> {
         let alone = [1, 1, 0, 4, 0, 0, 12, 4];
-        assert!(rt; matches!(turn_count(rt.alloc(), &alone), Ok(0)));
+        assert_eq!(rt; turn_count(rt.alloc(), &alone), Ok(0));
         let mut log = Vec::new(rt.alloc());
         log.extend_from_slice(&[2, 1, 0, 4, 2, 0, 24, 0, 0, 12, 4])?;
         log.extend_from_slice(&[13, 0, 0, 0, 0, 0, 0, 0, 0, 0, 0, 0])?;
         log.extend_from_slice(&[14, 0, 0, 0, 0, 0, 0, 0, 0, 0, 0, 0])?;
-        assert!(rt; matches!(turn_count(rt.alloc(), log.as_slice()), Ok(2)));
+        assert_eq!(rt; turn_count(rt.alloc(), log.as_slice()), Ok(2));
         match turn_count(rt.alloc(), &[]) {
             Err(DayError::Refused(fault)) => {
                 assert_eq!(rt; fault, Fault::Log(LogFault::Start, 0))

@@ -186,19 +186,19 @@ fn calls_in_several_bodies(rt: HostRuntime) -> Result<(), Fail> {
 fn the_most_calls(rt: HostRuntime) -> Result<(), Fail> {
     let heap = rt.alloc();
     let rows = hearings(heap)?;
-    plays(
-        &rt,
-        heap,
-        "the most calls",
-        &PRINTER,
-        rows.as_slice(),
-        [0, 0, 0, 0, 0, 0, 0, 0, 0],
-    )
+    let day = Day {
+        name: "the most calls",
+        making: PRINTER,
+        rows: rows.as_slice(),
+        end: [0, 0, 0, 0, 0, 0, 0, 0, 0],
+    };
+    plays(&rt, heap, &day)
 }
 
 // 5,460 hearings by A, a minute apart, with nothing waiting.
 fn hearings(heap: Global) -> Result<Vec<Row>, AllocError> {
     let mut rows: Vec<Row> = Vec::new(heap);
+    // Over the minutes themselves: no list has them.
     for minute in 0..5_460 {
         rows.push((HEAR, A, minute, 0, 0, 0, Ok(0)))?;
     }

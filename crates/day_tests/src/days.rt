@@ -214,55 +214,46 @@ const ONE_WAY_DEAD: [Row; 27] = [
     (ISSUE, B, 44, 42, 0, 0, Err(21)),
 ];
 
+const WHOLE_DAYS: [Day; 6] = [
+    Day {
+        name: "the morning",
+        making: PHONE,
+        rows: &MORNING,
+        end: [1, 0, 0, 0, 0, 1, 0, 0, 0],
+    },
+    Day {
+        name: "the morning without its first call",
+        making: PHONE,
+        rows: &FIRST_CALL_LOST,
+        end: [1, 1, 0, 0, 0, 0, 0, 0, 0],
+    },
+    Day {
+        name: "a day by telephone",
+        making: PHONE,
+        rows: &BY_TELEPHONE,
+        end: [0, 3, 0, 0, 2, 2, 0, 0, 3],
+    },
+    Day {
+        name: "a day by printer",
+        making: PRINTER,
+        rows: &BY_PRINTER,
+        end: [1, 2, 0, 0, 1, 1, 0, 0, 1],
+    },
+    Day {
+        name: "a one-way day",
+        making: ONE_WAY_PHONE,
+        rows: &ONE_WAY_DAY,
+        end: [0, 4, 1, 1, 0, 0, 0, 0, 2],
+    },
+    Day {
+        name: "one way in dead working",
+        making: ONE_WAY_PRINTER,
+        rows: &ONE_WAY_DEAD,
+        end: [1, 4, 0, 1, 0, 0, 0, 0, 2],
+    },
+];
+
 #[test]
 fn whole_days(rt: HostRuntime) -> Result<(), Fail> {
-    let heap = rt.alloc();
-    plays(
-        &rt,
-        heap,
-        "the morning",
-        &PHONE,
-        &MORNING,
-        [1, 0, 0, 0, 0, 1, 0, 0, 0],
-    )?;
-    plays(
-        &rt,
-        heap,
-        "the morning without its first call",
-        &PHONE,
-        &FIRST_CALL_LOST,
-        [1, 1, 0, 0, 0, 0, 0, 0, 0],
-    )?;
-    plays(
-        &rt,
-        heap,
-        "a day by telephone",
-        &PHONE,
-        &BY_TELEPHONE,
-        [0, 3, 0, 0, 2, 2, 0, 0, 3],
-    )?;
-    plays(
-        &rt,
-        heap,
-        "a day by printer",
-        &PRINTER,
-        &BY_PRINTER,
-        [1, 2, 0, 0, 1, 1, 0, 0, 1],
-    )?;
-    plays(
-        &rt,
-        heap,
-        "a one-way day",
-        &ONE_WAY_PHONE,
-        &ONE_WAY_DAY,
-        [0, 4, 1, 1, 0, 0, 0, 0, 2],
-    )?;
-    plays(
-        &rt,
-        heap,
-        "one way in dead working",
-        &ONE_WAY_PRINTER,
-        &ONE_WAY_DEAD,
-        [1, 4, 0, 1, 0, 0, 0, 0, 2],
-    )
+    plays_all(&rt, rt.alloc(), &WHOLE_DAYS)
 }

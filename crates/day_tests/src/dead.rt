@@ -1,6 +1,7 @@
 // Dead working: refusals 20, 24 and 25, passes, and what going dead empties.
 use crate::play::*;
 use std::test::Fail;
+use vocabulary::fields::MakingFields;
 
 // Two trains of A on their way, an interval of 15 minutes apart; the first arrives.
 const WORKED: [Row; 7] = [
@@ -288,124 +289,114 @@ const CARRIED_AT_THE_ISSUE: [Row; 28] = [
     (HEAR, A, 36, 0, 0, 0, Ok(4)),
 ];
 
+const NATURES_AND_INTERVALS: [Day; 9] = [
+    Day {
+        name: "the worked example",
+        making: PHONE,
+        rows: &WORKED,
+        end: [1, 2, 0, 0, 0, 0, 0, 0, 1],
+    },
+    Day {
+        name: "a departure at minute 0",
+        making: PHONE,
+        rows: &MINUTE_0,
+        end: [2, 3, 1, 0, 0, 0, 0, 0, 0],
+    },
+    Day {
+        name: "natures and the interval",
+        making: PHONE,
+        rows: &NATURES,
+        end: [3, 4, 1, 0, 0, 0, 0, 0, 0],
+    },
+    Day {
+        name: "a running time of 1",
+        making: MakingFields {
+            running_time: 1,
+            ..PHONE
+        },
+        rows: &AFTER_13,
+        end: [2, 2, 0, 0, 0, 0, 0, 0, 0],
+    },
+    Day {
+        name: "a running time of 10",
+        making: MakingFields {
+            running_time: 10,
+            ..PHONE
+        },
+        rows: &AFTER_13,
+        end: [2, 2, 0, 0, 0, 0, 0, 0, 0],
+    },
+    Day {
+        name: "a running time of 11",
+        making: MakingFields {
+            running_time: 11,
+            ..PHONE
+        },
+        rows: &AFTER_14,
+        end: [2, 2, 0, 0, 0, 0, 0, 0, 0],
+    },
+    Day {
+        name: "a running time of 240",
+        making: MakingFields {
+            running_time: 240,
+            ..PHONE
+        },
+        rows: &AFTER_243,
+        end: [2, 2, 0, 0, 0, 0, 0, 0, 0],
+    },
+    Day {
+        name: "at the last minute",
+        making: PHONE,
+        rows: &LAST_MINUTE,
+        end: [1, 1, 0, 0, 0, 0, 0, 0, 0],
+    },
+    Day {
+        name: "the interval over both workings",
+        making: PHONE,
+        rows: &INTERVAL_ACROSS,
+        end: [2, 2, 0, 0, 0, 2, 0, 0, 2],
+    },
+];
+
 #[test]
 fn natures_and_intervals(rt: HostRuntime) -> Result<(), Fail> {
-    let heap = rt.alloc();
-    plays(
-        &rt,
-        heap,
-        "the worked example",
-        &PHONE,
-        &WORKED,
-        [1, 2, 0, 0, 0, 0, 0, 0, 1],
-    )?;
-    plays(
-        &rt,
-        heap,
-        "a departure at minute 0",
-        &PHONE,
-        &MINUTE_0,
-        [2, 3, 1, 0, 0, 0, 0, 0, 0],
-    )?;
-    plays(
-        &rt,
-        heap,
-        "natures and the interval",
-        &PHONE,
-        &NATURES,
-        [3, 4, 1, 0, 0, 0, 0, 0, 0],
-    )?;
-    plays(
-        &rt,
-        heap,
-        "a running time of 1",
-        &telephone_with(1, 4),
-        &AFTER_13,
-        [2, 2, 0, 0, 0, 0, 0, 0, 0],
-    )?;
-    plays(
-        &rt,
-        heap,
-        "a running time of 10",
-        &telephone_with(10, 4),
-        &AFTER_13,
-        [2, 2, 0, 0, 0, 0, 0, 0, 0],
-    )?;
-    plays(
-        &rt,
-        heap,
-        "a running time of 11",
-        &telephone_with(11, 4),
-        &AFTER_14,
-        [2, 2, 0, 0, 0, 0, 0, 0, 0],
-    )?;
-    plays(
-        &rt,
-        heap,
-        "a running time of 240",
-        &telephone_with(240, 4),
-        &AFTER_243,
-        [2, 2, 0, 0, 0, 0, 0, 0, 0],
-    )?;
-    plays(
-        &rt,
-        heap,
-        "at the last minute",
-        &PHONE,
-        &LAST_MINUTE,
-        [1, 1, 0, 0, 0, 0, 0, 0, 0],
-    )?;
-    plays(
-        &rt,
-        heap,
-        "the interval over both workings",
-        &PHONE,
-        &INTERVAL_ACROSS,
-        [2, 2, 0, 0, 0, 2, 0, 0, 2],
-    )
+    plays_all(&rt, rt.alloc(), &NATURES_AND_INTERVALS)
 }
+
+const PASSES_AND_GOING_DEAD: [Day; 5] = [
+    Day {
+        name: "passes both ways",
+        making: PHONE,
+        rows: &PASSES,
+        end: [0, 3, 0, 0, 1, 1, 0, 0, 3],
+    },
+    Day {
+        name: "passes set back",
+        making: PHONE,
+        rows: &SET_BACK_PASSES,
+        end: [1, 6, 2, 1, 0, 1, 0, 1, 2],
+    },
+    Day {
+        name: "what going dead empties",
+        making: PHONE,
+        rows: &GOING_DEAD,
+        end: [0, 1, 1, 0, 0, 0, 0, 0, 0],
+    },
+    Day {
+        name: "hearing in dead working",
+        making: PHONE,
+        rows: &DEAD_BUT_HEARING,
+        end: [1, 0, 0, 0, 0, 1, 0, 0, 0],
+    },
+    Day {
+        name: "what a paper carries",
+        making: PHONE,
+        rows: &CARRIED_AT_THE_ISSUE,
+        end: [0, 1, 0, 0, 2, 2, 0, 0, 1],
+    },
+];
 
 #[test]
 fn passes_and_going_dead(rt: HostRuntime) -> Result<(), Fail> {
-    let heap = rt.alloc();
-    plays(
-        &rt,
-        heap,
-        "passes both ways",
-        &PHONE,
-        &PASSES,
-        [0, 3, 0, 0, 1, 1, 0, 0, 3],
-    )?;
-    plays(
-        &rt,
-        heap,
-        "passes set back",
-        &PHONE,
-        &SET_BACK_PASSES,
-        [1, 6, 2, 1, 0, 1, 0, 1, 2],
-    )?;
-    plays(
-        &rt,
-        heap,
-        "what going dead empties",
-        &PHONE,
-        &GOING_DEAD,
-        [0, 1, 1, 0, 0, 0, 0, 0, 0],
-    )?;
-    plays(
-        &rt,
-        heap,
-        "hearing in dead working",
-        &PHONE,
-        &DEAD_BUT_HEARING,
-        [1, 0, 0, 0, 0, 1, 0, 0, 0],
-    )?;
-    plays(
-        &rt,
-        heap,
-        "what a paper carries",
-        &PHONE,
-        &CARRIED_AT_THE_ISSUE,
-        [0, 1, 0, 0, 2, 2, 0, 0, 1],
-    )
+    plays_all(&rt, rt.alloc(), &PASSES_AND_GOING_DEAD)
 }

@@ -207,47 +207,40 @@ const EARLY_ALONE: [Row; 22] = [
     (RESUME, A, 18, 0, 0, 0, Ok(0)),
 ];
 
+const FIELDS_AND_MINUTES: [Day; 5] = [
+    Day {
+        name: "fields out of bounds",
+        making: PHONE,
+        rows: &BAD_FIELDS,
+        end: [0, 0, 0, 0, 0, 0, 0, 0, 0],
+    },
+    Day {
+        name: "fields at their bounds",
+        making: PHONE,
+        rows: &LARGEST_FIELDS,
+        end: [0, 1, 0, 0, 0, 0, 0, 0, 1],
+    },
+    Day {
+        name: "minutes before the clock",
+        making: PHONE,
+        rows: &EARLY_MINUTES,
+        end: [0, 0, 0, 0, 0, 0, 0, 0, 0],
+    },
+    Day {
+        name: "bad fields before the clock",
+        making: PHONE,
+        rows: &EARLY_AND_BAD,
+        end: [0, 0, 0, 0, 0, 0, 0, 0, 0],
+    },
+    Day {
+        name: "the clock alone",
+        making: PHONE,
+        rows: &EARLY_ALONE,
+        end: [0, 0, 0, 0, 1, 1, 0, 0, 0],
+    },
+];
+
 #[test]
 fn fields_and_minutes(rt: HostRuntime) -> Result<(), Fail> {
-    let heap = rt.alloc();
-    plays(
-        &rt,
-        heap,
-        "fields out of bounds",
-        &PHONE,
-        &BAD_FIELDS,
-        [0, 0, 0, 0, 0, 0, 0, 0, 0],
-    )?;
-    plays(
-        &rt,
-        heap,
-        "fields at their bounds",
-        &PHONE,
-        &LARGEST_FIELDS,
-        [0, 1, 0, 0, 0, 0, 0, 0, 1],
-    )?;
-    plays(
-        &rt,
-        heap,
-        "minutes before the clock",
-        &PHONE,
-        &EARLY_MINUTES,
-        [0, 0, 0, 0, 0, 0, 0, 0, 0],
-    )?;
-    plays(
-        &rt,
-        heap,
-        "bad fields before the clock",
-        &PHONE,
-        &EARLY_AND_BAD,
-        [0, 0, 0, 0, 0, 0, 0, 0, 0],
-    )?;
-    plays(
-        &rt,
-        heap,
-        "the clock alone",
-        &PHONE,
-        &EARLY_ALONE,
-        [0, 0, 0, 0, 1, 1, 0, 0, 0],
-    )
+    plays_all(&rt, rt.alloc(), &FIELDS_AND_MINUTES)
 }

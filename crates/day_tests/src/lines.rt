@@ -151,47 +151,40 @@ const BOTH_LISTS: [Row; 10] = [
     (REPORT, A, 0, 0, 0, 0, Err(28)),
 ];
 
+const TELEPHONE_AND_PRINTER: [Day; 5] = [
+    Day {
+        name: "the telephone refuses",
+        making: PHONE,
+        rows: &PHONE_REFUSES,
+        end: [1, 0, 0, 0, 0, 1, 0, 0, 0],
+    },
+    Day {
+        name: "eight wait on the printer",
+        making: PRINTER,
+        rows: &PRINTER_FULL,
+        end: [1, 1, 0, 0, 0, 0, 0, 0, 0],
+    },
+    Day {
+        name: "the telephone loses an ask",
+        making: PHONE,
+        rows: &ASK_LOST,
+        end: [0, 0, 0, 0, 0, 0, 0, 0, 0],
+    },
+    Day {
+        name: "the printer keeps an ask",
+        making: PRINTER,
+        rows: &ASK_KEPT,
+        end: [0, 1, 0, 0, 0, 0, 0, 0, 1],
+    },
+    Day {
+        name: "a drop empties both lists",
+        making: PHONE,
+        rows: &BOTH_LISTS,
+        end: [0, 0, 0, 0, 0, 0, 0, 0, 0],
+    },
+];
+
 #[test]
 fn telephone_and_printer(rt: HostRuntime) -> Result<(), Fail> {
-    let heap = rt.alloc();
-    plays(
-        &rt,
-        heap,
-        "the telephone refuses",
-        &PHONE,
-        &PHONE_REFUSES,
-        [1, 0, 0, 0, 0, 1, 0, 0, 0],
-    )?;
-    plays(
-        &rt,
-        heap,
-        "eight wait on the printer",
-        &PRINTER,
-        &PRINTER_FULL,
-        [1, 1, 0, 0, 0, 0, 0, 0, 0],
-    )?;
-    plays(
-        &rt,
-        heap,
-        "the telephone loses an ask",
-        &PHONE,
-        &ASK_LOST,
-        [0, 0, 0, 0, 0, 0, 0, 0, 0],
-    )?;
-    plays(
-        &rt,
-        heap,
-        "the printer keeps an ask",
-        &PRINTER,
-        &ASK_KEPT,
-        [0, 1, 0, 0, 0, 0, 0, 0, 1],
-    )?;
-    plays(
-        &rt,
-        heap,
-        "a drop empties both lists",
-        &PHONE,
-        &BOTH_LISTS,
-        [0, 0, 0, 0, 0, 0, 0, 0, 0],
-    )
+    plays_all(&rt, rt.alloc(), &TELEPHONE_AND_PRINTER)
 }

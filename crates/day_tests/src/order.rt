@@ -21,6 +21,7 @@
 // - issue 23-24: the one is for telephone working, the other for dead working.
 use crate::play::*;
 use std::test::Fail;
+use vocabulary::fields::MakingFields;
 
 // 13 before 14, 14 before 15.
 const ON_ONE_WAY: [Row; 11] = [
@@ -190,47 +191,40 @@ const WITH_A_FULL_TRAY: [Row; 10] = [
     (ISSUE, B, 15, 42, 1, 0, Err(21)),
 ];
 
+const THE_LOWER_REFUSAL_FIRST: [Day; 5] = [
+    Day {
+        name: "order on a one-way track",
+        making: ONE_WAY_PHONE,
+        rows: &ON_ONE_WAY,
+        end: [0, 0, 0, 0, 0, 0, 0, 0, 0],
+    },
+    Day {
+        name: "order with a paper in hand",
+        making: PHONE,
+        rows: &WITH_A_PAPER_IN_HAND,
+        end: [0, 1, 1, 0, 0, 0, 0, 0, 0],
+    },
+    Day {
+        name: "order with a train out",
+        making: PHONE,
+        rows: &WITH_A_TRAIN_OUT,
+        end: [0, 2, 1, 0, 0, 0, 0, 0, 1],
+    },
+    Day {
+        name: "order without the right",
+        making: PHONE,
+        rows: &WITHOUT_THE_RIGHT,
+        end: [0, 0, 0, 0, 1, 2, 0, 1, 0],
+    },
+    Day {
+        name: "order with a full tray",
+        making: MakingFields { tray: 1, ..PHONE },
+        rows: &WITH_A_FULL_TRAY,
+        end: [1, 1, 0, 0, 0, 0, 0, 0, 0],
+    },
+];
+
 #[test]
 fn the_lower_refusal_first(rt: HostRuntime) -> Result<(), Fail> {
-    let heap = rt.alloc();
-    plays(
-        &rt,
-        heap,
-        "order on a one-way track",
-        &ONE_WAY_PHONE,
-        &ON_ONE_WAY,
-        [0, 0, 0, 0, 0, 0, 0, 0, 0],
-    )?;
-    plays(
-        &rt,
-        heap,
-        "order with a paper in hand",
-        &PHONE,
-        &WITH_A_PAPER_IN_HAND,
-        [0, 1, 1, 0, 0, 0, 0, 0, 0],
-    )?;
-    plays(
-        &rt,
-        heap,
-        "order with a train out",
-        &PHONE,
-        &WITH_A_TRAIN_OUT,
-        [0, 2, 1, 0, 0, 0, 0, 0, 1],
-    )?;
-    plays(
-        &rt,
-        heap,
-        "order without the right",
-        &PHONE,
-        &WITHOUT_THE_RIGHT,
-        [0, 0, 0, 0, 1, 2, 0, 1, 0],
-    )?;
-    plays(
-        &rt,
-        heap,
-        "order with a full tray",
-        &telephone_with(12, 1),
-        &WITH_A_FULL_TRAY,
-        [1, 1, 0, 0, 0, 0, 0, 0, 0],
-    )
+    plays_all(&rt, rt.alloc(), &THE_LOWER_REFUSAL_FIRST)
 }

@@ -10,6 +10,16 @@ use vocabulary::fields::{CallFields, MakingFields};
 // A call, its station, minute, number, nature and pass, and what it must answer: a number, or the refusal's number.
 pub(crate) type Row = (u8, u8, u32, u32, u8, u8, Result<u32, u8>);
 
+// A day to be played: its name, its making, its calls with what each must answer, and its end: the papers live, then papers issued, cancelled, set back and taken at A, then at B.
+#[derive(Clone, Copy)]
+pub(crate) struct Day<'a> {
+    pub(crate) name: &'a str,
+    pub(crate) making: MakingFields,
+    pub(crate) rows: &'a [Row],
+    pub(crate) end: [u32; 9],
+}
+
+// The log's bytes, by numbers of the trials' own, so that a wrong number in the code is seen.
 pub(crate) const ASK: u8 = 1;
 
 pub(crate) const ACCEPT: u8 = 2;
@@ -50,36 +60,14 @@ pub(crate) const PHONE: MakingFields = MakingFields {
     tray: 4,
 };
 
-pub(crate) const PRINTER: MakingFields = MakingFields {
-    track: 0,
-    line: 1,
-    running_time: 12,
-    tray: 4,
-};
+pub(crate) const PRINTER: MakingFields = MakingFields { line: 1, ..PHONE };
 
-pub(crate) const ONE_WAY_PHONE: MakingFields = MakingFields {
-    track: 1,
-    line: 0,
-    running_time: 12,
-    tray: 4,
-};
+pub(crate) const ONE_WAY_PHONE: MakingFields = MakingFields { track: 1, ..PHONE };
 
 pub(crate) const ONE_WAY_PRINTER: MakingFields = MakingFields {
-    track: 1,
     line: 1,
-    running_time: 12,
-    tray: 4,
+    ..ONE_WAY_PHONE
 };
-
-// A single track with the telephone, and another running time or tray.
-pub(crate) fn telephone_with(running_time: u8, tray: u8) -> MakingFields {
-    MakingFields {
-        track: 0,
-        line: 0,
-        running_time,
-        tray,
-    }
-}
 
 // How long the longest log of two entries is.
 const LONGEST: usize = 65_531;
@@ -89,30 +77,37 @@ const FIRST_PLACE: usize = 11;
 
 const CALL_BYTES: usize = 12;
 
-// Writes the rows as a log, replays it, and compares what comes with what the rows say. The end is the papers live, then papers issued, cancelled, set back and taken at A, then at B. A failure says the name.
-pub(crate) fn plays(
-    rt: &impl Abort,
-    heap: Global,
-    name: &str,
-    making: &MakingFields,
-    rows: &[Row],
-    end: [u32; 9],
-) -> Result<(), Fail> {
+// Plays the days one after the other, up to the first that fails.
+pub(crate) fn plays_all(rt: &impl Abort, heap: Global, days: &[Day]) -> Result<(), Fail> {
+    for day in days {
+        plays(rt, heap, day)?;
+    }
+    Ok(())
+}
+
+// Writes the day's rows as a log, replays it, and compares what comes with what the rows say. A failure says the name.
+pub(crate) fn plays(rt: &impl Abort, heap: Global, day: &Day) -> Result<(), Fail> {
+    let Day {
+        name,
+        making,
+        rows,
+        end,
+    } = *day;
     let calls = calls_of(heap, rows)?;
     let mut space = vec![in heap; 0; LONGEST]?;
-    let length = write(making, calls.as_slice(), space.as_mut_slice())?;
+    let length = write(&making, calls.as_slice(), space.as_mut_slice())?;
     assert!(rt; length <= space.len(), "{name}");
-    let day = replayed(heap, &space.as_slice()[0..length])?;
-    assert_eq!(rt; day.made.track as u8, making.track, "{name}");
+    let report = replayed(heap, &space.as_slice()[0..length])?;
+    assert_eq!(rt; report.made.track as u8, making.track, "{name}");
     assert_eq!(rt;
-        day.made.running_time,
+        report.made.running_time,
         u32::from(making.running_time),
         "{name}"
     );
-    assert_eq!(rt; day.made.tray, usize::from(making.tray), "{name}");
-    assert_eq!(rt; day.turns.len(), rows.len(), "{name}");
+    assert_eq!(rt; report.made.tray, usize::from(making.tray), "{name}");
+    assert_eq!(rt; report.turns.len(), rows.len(), "{name}");
     let mut place = FIRST_PLACE;
-    for (row, seen) in rows.iter().zip(day.turns.iter()) {
+    for (row, seen) in rows.iter().zip(report.turns.iter()) {
         assert_eq!(rt; seen.place, place, "{name}");
         assert_eq!(rt;
             seen.fields,
@@ -126,7 +121,7 @@ pub(crate) fn plays(
         );
         place = place.wrapping_add(CALL_BYTES);
     }
-    ends_with(rt, name, &day, end);
+    ends_with(rt, name, &report, end);
     Ok(())
 }
 
@@ -161,11 +156,7 @@ pub(crate) fn ends_with(rt: &impl Abort, name: &str, day: &DayReport, end: [u32;
 }
 
 fn calls_of(heap: Global, rows: &[Row]) -> Result<Vec<CallFields>, AllocError> {
-    let mut calls = Vec::new(heap);
-    for row in rows {
-        calls.push(fields_of(row))?;
-    }
-    Ok(calls)
+    rows.iter().map(fields_of).collect(heap)
 }
 
 fn fields_of(row: &Row) -> CallFields {

@@ -1,6 +1,6 @@
 // Record numbers: one row of them for accept, report and release, from 1 each day, and refusal 26 after 999.
 use crate::play::*;
-use std::alloc::AllocError;
+use std::alloc::{AllocError, Global};
 use std::test::Fail;
 
 // Day 0 ends with minute 1,439.
@@ -115,44 +115,45 @@ const B_USED_UP: [Row; 15] = [
 #[test]
 fn record_numbers(rt: HostRuntime) -> Result<(), Fail> {
     let heap = rt.alloc();
-    plays(
-        &rt,
-        heap,
-        "record numbers each day",
-        &PHONE,
-        &CHANGE_OF_DAY,
-        [0, 0, 0, 0, 0, 0, 0, 0, 0],
-    )?;
-    let mut a_used_up: Vec<Row> = Vec::new(heap);
-    reports(&mut a_used_up, A, B)?;
-    a_used_up.extend_from_slice(&A_USED_UP)?;
-    plays(
-        &rt,
-        heap,
-        "after 999 record numbers",
-        &PHONE,
-        a_used_up.as_slice(),
-        [0, 1, 1, 0, 0, 0, 0, 0, 0],
-    )?;
-    let mut b_used_up: Vec<Row> = Vec::new(heap);
-    b_used_up.extend_from_slice(&RIGHT_TO_B)?;
-    reports(&mut b_used_up, B, A)?;
-    b_used_up.extend_from_slice(&B_USED_UP)?;
-    plays(
-        &rt,
-        heap,
-        "a train out before used up numbers",
-        &PHONE,
-        b_used_up.as_slice(),
-        [0, 0, 0, 0, 1, 1, 0, 0, 0],
-    )
+    let a_used_up = with_reports(heap, &[], (A, B), &A_USED_UP)?;
+    let b_used_up = with_reports(heap, &RIGHT_TO_B, (B, A), &B_USED_UP)?;
+    let days = [
+        Day {
+            name: "record numbers each day",
+            making: PHONE,
+            rows: &CHANGE_OF_DAY,
+            end: [0, 0, 0, 0, 0, 0, 0, 0, 0],
+        },
+        Day {
+            name: "after 999 record numbers",
+            making: PHONE,
+            rows: a_used_up.as_slice(),
+            end: [0, 1, 1, 0, 0, 0, 0, 0, 0],
+        },
+        Day {
+            name: "a train out before used up numbers",
+            making: PHONE,
+            rows: b_used_up.as_slice(),
+            end: [0, 0, 0, 0, 1, 1, 0, 0, 0],
+        },
+    ];
+    plays_all(&rt, heap, &days)
 }
 
-// One station reports 999 times at minute 0, and the other hears each report, since the telephone holds but one.
-fn reports(rows: &mut Vec<Row>, from: u8, to: u8) -> Result<(), AllocError> {
+// The rows before, then 999 reports by one station at minute 0, each heard by the other, since the telephone holds but one; then the rows after.
+fn with_reports(
+    heap: Global,
+    before: &[Row],
+    (from, to): (u8, u8),
+    after: &[Row],
+) -> Result<Vec<Row>, AllocError> {
+    let mut rows: Vec<Row> = Vec::new(heap);
+    rows.extend_from_slice(before)?;
+    // Over the numbers themselves: no list has them.
     for number in 1..1_000 {
         rows.push((REPORT, from, 0, 0, 0, 0, Ok(number)))?;
         rows.push((HEAR, to, 0, 0, 0, 0, Ok(3)))?;
     }
-    Ok(())
+    rows.extend_from_slice(after)?;
+    Ok(rows)
 }

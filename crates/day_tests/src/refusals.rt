@@ -255,71 +255,58 @@ const ACCEPTANCES: [Row; 17] = [
     (ACCEPT, A, 2, 0, 0, 0, Err(17)),
 ];
 
+const WHAT_BARS_EACH_CALL: [Day; 8] = [
+    Day {
+        name: "what a one-way track bars",
+        making: ONE_WAY_PHONE,
+        rows: &NOT_ONE_WAY,
+        end: [0, 1, 0, 0, 0, 0, 0, 0, 1],
+    },
+    Day {
+        name: "what each working bars",
+        making: PHONE,
+        rows: &NOT_IN_THIS_WORKING,
+        end: [0, 0, 0, 0, 0, 0, 0, 0, 0],
+    },
+    Day {
+        name: "the working alone",
+        making: PHONE,
+        rows: &WORKING_ALONE,
+        end: [0, 0, 0, 0, 0, 0, 0, 0, 0],
+    },
+    Day {
+        name: "what a paper in hand bars",
+        making: PHONE,
+        rows: &PAPER_IN_HAND,
+        end: [0, 1, 1, 0, 0, 1, 1, 0, 0],
+    },
+    Day {
+        name: "nothing in hand, heard or to release",
+        making: PHONE,
+        rows: &NOTHING_THERE,
+        end: [1, 1, 0, 0, 0, 0, 0, 0, 0],
+    },
+    Day {
+        name: "the paper at that end is another",
+        making: PHONE,
+        rows: &NOT_THAT_PAPER,
+        end: [0, 2, 0, 0, 0, 0, 0, 0, 2],
+    },
+    Day {
+        name: "what trains out bar",
+        making: PHONE,
+        rows: &TRAINS_OUT,
+        end: [1, 2, 0, 0, 1, 1, 0, 0, 1],
+    },
+    Day {
+        name: "acceptances held and wanting",
+        making: PHONE,
+        rows: &ACCEPTANCES,
+        end: [0, 1, 1, 0, 0, 0, 0, 0, 0],
+    },
+];
+
 #[test]
 fn what_bars_each_call(rt: HostRuntime) -> Result<(), Fail> {
-    let heap = rt.alloc();
-    plays(
-        &rt,
-        heap,
-        "what a one-way track bars",
-        &ONE_WAY_PHONE,
-        &NOT_ONE_WAY,
-        [0, 1, 0, 0, 0, 0, 0, 0, 1],
-    )?;
-    plays(
-        &rt,
-        heap,
-        "what each working bars",
-        &PHONE,
-        &NOT_IN_THIS_WORKING,
-        [0, 0, 0, 0, 0, 0, 0, 0, 0],
-    )?;
-    plays(
-        &rt,
-        heap,
-        "the working alone",
-        &PHONE,
-        &WORKING_ALONE,
-        [0, 0, 0, 0, 0, 0, 0, 0, 0],
-    )?;
-    plays(
-        &rt,
-        heap,
-        "what a paper in hand bars",
-        &PHONE,
-        &PAPER_IN_HAND,
-        [0, 1, 1, 0, 0, 1, 1, 0, 0],
-    )?;
-    plays(
-        &rt,
-        heap,
-        "nothing in hand, heard or to release",
-        &PHONE,
-        &NOTHING_THERE,
-        [1, 1, 0, 0, 0, 0, 0, 0, 0],
-    )?;
-    plays(
-        &rt,
-        heap,
-        "the paper at that end is another",
-        &PHONE,
-        &NOT_THAT_PAPER,
-        [0, 2, 0, 0, 0, 0, 0, 0, 2],
-    )?;
-    plays(
-        &rt,
-        heap,
-        "what trains out bar",
-        &PHONE,
-        &TRAINS_OUT,
-        [1, 2, 0, 0, 1, 1, 0, 0, 1],
-    )?;
-    plays(
-        &rt,
-        heap,
-        "acceptances held and wanting",
-        &PHONE,
-        &ACCEPTANCES,
-        [0, 1, 1, 0, 0, 0, 0, 0, 0],
-    )
+    plays_all(&rt, rt.alloc(), &WHAT_BARS_EACH_CALL)
 }

@@ -226,63 +226,52 @@ const SET_BACK_TICKETS: [Row; 31] = [
     (ISSUE, B, 24, 42, 0, 0, Err(25)),
 ];
 
+const THE_RIGHT_TO_SEND: [Day; 7] = [
+    Day {
+        name: "issue without the right",
+        making: PHONE,
+        rows: &NO_RIGHT,
+        end: [1, 0, 0, 0, 0, 2, 1, 0, 0],
+    },
+    Day {
+        name: "releases and a lost acceptance",
+        making: PHONE,
+        rows: &RELEASES,
+        end: [0, 1, 0, 0, 0, 0, 0, 0, 1],
+    },
+    Day {
+        name: "a higher number tells of arrivals",
+        making: PHONE,
+        rows: &LEARNT,
+        end: [0, 1, 0, 0, 0, 0, 0, 0, 1],
+    },
+    Day {
+        name: "acceptances are matched by count",
+        making: PHONE,
+        rows: &BY_COUNT,
+        end: [0, 1, 1, 0, 0, 0, 0, 0, 0],
+    },
+    Day {
+        name: "an old acceptance teaches its number",
+        making: PHONE,
+        rows: &OLD_BUT_TEACHES,
+        end: [1, 0, 0, 0, 0, 1, 0, 0, 0],
+    },
+    Day {
+        name: "both stations ask",
+        making: PHONE,
+        rows: &BOTH_ASK,
+        end: [0, 0, 0, 0, 0, 0, 0, 0, 0],
+    },
+    Day {
+        name: "tickets set back",
+        making: PHONE,
+        rows: &SET_BACK_TICKETS,
+        end: [0, 1, 0, 1, 0, 2, 0, 2, 0],
+    },
+];
+
 #[test]
 fn the_right_to_send(rt: HostRuntime) -> Result<(), Fail> {
-    let heap = rt.alloc();
-    plays(
-        &rt,
-        heap,
-        "issue without the right",
-        &PHONE,
-        &NO_RIGHT,
-        [1, 0, 0, 0, 0, 2, 1, 0, 0],
-    )?;
-    plays(
-        &rt,
-        heap,
-        "releases and a lost acceptance",
-        &PHONE,
-        &RELEASES,
-        [0, 1, 0, 0, 0, 0, 0, 0, 1],
-    )?;
-    plays(
-        &rt,
-        heap,
-        "a higher number tells of arrivals",
-        &PHONE,
-        &LEARNT,
-        [0, 1, 0, 0, 0, 0, 0, 0, 1],
-    )?;
-    plays(
-        &rt,
-        heap,
-        "acceptances are matched by count",
-        &PHONE,
-        &BY_COUNT,
-        [0, 1, 1, 0, 0, 0, 0, 0, 0],
-    )?;
-    plays(
-        &rt,
-        heap,
-        "an old acceptance teaches its number",
-        &PHONE,
-        &OLD_BUT_TEACHES,
-        [1, 0, 0, 0, 0, 1, 0, 0, 0],
-    )?;
-    plays(
-        &rt,
-        heap,
-        "both stations ask",
-        &PHONE,
-        &BOTH_ASK,
-        [0, 0, 0, 0, 0, 0, 0, 0, 0],
-    )?;
-    plays(
-        &rt,
-        heap,
-        "tickets set back",
-        &PHONE,
-        &SET_BACK_TICKETS,
-        [0, 1, 0, 1, 0, 2, 0, 2, 0],
-    )
+    plays_all(&rt, rt.alloc(), &THE_RIGHT_TO_SEND)
 }

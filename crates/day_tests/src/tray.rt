@@ -2,6 +2,7 @@
 use crate::play::*;
 use std::alloc::{AllocError, Global};
 use std::test::Fail;
+use vocabulary::fields::MakingFields;
 
 // A tray of 1.
 const ONE_PAPER: [Row; 14] = [
@@ -63,31 +64,28 @@ const AFTER_64: [Row; 10] = [
 #[test]
 fn full_trays(rt: HostRuntime) -> Result<(), Fail> {
     let heap = rt.alloc();
-    plays(
-        &rt,
-        heap,
-        "a tray of 1",
-        &telephone_with(12, 1),
-        &ONE_PAPER,
-        [1, 4, 1, 1, 0, 0, 0, 0, 1],
-    )?;
-    plays(
-        &rt,
-        heap,
-        "a tray of 2",
-        &telephone_with(12, 2),
-        &TWO_PAPERS,
-        [1, 0, 0, 0, 1, 3, 1, 0, 0],
-    )?;
     let rows = a_train_each_interval(heap)?;
-    plays(
-        &rt,
-        heap,
-        "a tray of 64",
-        &telephone_with(12, 64),
-        rows.as_slice(),
-        [63, 66, 0, 0, 0, 0, 0, 0, 3],
-    )
+    let days = [
+        Day {
+            name: "a tray of 1",
+            making: MakingFields { tray: 1, ..PHONE },
+            rows: &ONE_PAPER,
+            end: [1, 4, 1, 1, 0, 0, 0, 0, 1],
+        },
+        Day {
+            name: "a tray of 2",
+            making: MakingFields { tray: 2, ..PHONE },
+            rows: &TWO_PAPERS,
+            end: [1, 0, 0, 0, 1, 3, 1, 0, 0],
+        },
+        Day {
+            name: "a tray of 64",
+            making: MakingFields { tray: 64, ..PHONE },
+            rows: rows.as_slice(),
+            end: [63, 66, 0, 0, 0, 0, 0, 0, 3],
+        },
+    ];
+    plays_all(&rt, heap, &days)
 }
 
 // A goes dead and sends 64 trains, an interval of 15 minutes apart; then the rows above.
@@ -96,6 +94,7 @@ fn a_train_each_interval(heap: Global) -> Result<Vec<Row>, AllocError> {
     rows.push((DROP_LINE, A, 0, 0, 0, 0, Ok(0)))?;
     rows.push((DEAD, A, 0, 0, 0, 0, Ok(0)))?;
     let mut minute: u32 = 0;
+    // Over the serials themselves: no list has them.
     for serial in 1..65 {
         rows.push((ISSUE, A, minute, 41, 0, 0, Ok(serial)))?;
         rows.push((DEPART, A, minute, 0, 0, 0, Ok(serial)))?;

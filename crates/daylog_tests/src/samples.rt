@@ -1,6 +1,7 @@
 // Logs to try.
 use daylog::read::read;
 use std::alloc::{AllocError, Global};
+use std::iter;
 use vocabulary::fields::{CallFields, MakingFields};
 
 // A log with the given entries, each a kind and a length, and so many zero bytes behind them.
@@ -15,18 +16,23 @@ pub(crate) fn log(
         log.push(*kind)?;
         log.extend_from_slice(&length.to_be_bytes())?;
     }
-    for _ in 0..bodies {
-        log.push(0)?;
-    }
+    log.extend(iter::repeat_n(0, bodies))?;
     Ok(log)
 }
 
-// A fault's number and place, or two zeros where the log is read.
-pub(crate) fn fault(log: &[u8]) -> (u8, usize) {
-    match read(log) {
-        Ok(_) => (0, 0),
-        Err(fault) => (fault.number(), fault.place()),
-    }
+// A fault's number and place, where the log is refused.
+pub(crate) fn fault(log: &[u8]) -> Option<(u8, usize)> {
+    let fault = read(log).err()?;
+    Some((fault.number(), fault.place()))
+}
+
+// The same of a log with the given entries, and so many zero bytes behind them.
+pub(crate) fn fault_of(
+    heap: Global,
+    entries: &[(u8, u16)],
+    bodies: usize,
+) -> Result<Option<(u8, usize)>, AllocError> {
+    Ok(fault(log(heap, entries, bodies)?.as_slice()))
 }
 
 pub(crate) const MAKING: MakingFields = MakingFields {

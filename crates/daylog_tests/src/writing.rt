@@ -48,9 +48,7 @@ fn the_most_calls(rt: HostRuntime) -> Result<(), Fail> {
         write(&MAKING, calls.as_slice(), space.as_mut_slice()),
         none
     );
-    for byte in space.iter() {
-        assert_eq!(rt; *byte, 99);
-    }
+    assert!(rt; space.iter().all(|byte| *byte == 99));
     assert!(rt; calls.len() == 5_461);
     assert_eq!(rt;
         write(&MAKING, &calls.as_slice()[0..5_460], space.as_mut_slice()),

@@ -14,7 +14,7 @@ fn main(rt: HostRuntime) {
     }
 }
 
-// Reads one byte more than the longest log has, so that a longer one is refused for its length.
+// Reads one byte more than the longest log has, so that a longer one is refused for its length. loglist reads in the same way, and says why.
 fn run(rt: &HostRuntime) -> anyhow::Result<()> {
     let mut log = Vec::new(rt.alloc());
     rt.stdin()

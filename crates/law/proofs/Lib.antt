@@ -1,9 +1,3 @@
-pub mod Basics
-mod Numbers
-mod Steps
-mod Times
-mod Ledger
-mod Counts
-pub mod Invariant
-pub mod Refused
+pub mod SameRuns
+mod Refused
 mod Trials

@@ -1,47 +1,12 @@
--- The trials, by computing.
-use Rattle.std.proofs.Common.{ℕ, List, [], ◌∷◌, Some, None, Option, refl, inl}
-use Rattle.line.specs.Meaning.{MayHear}
-use Rattle.line.specs.declared.message.Message.{Message}
+-- The trials of the cabinets, by computing.
+use Rattle.std.proofs.Common.{List, [], ◌∷◌, refl}
 use Rattle.vocabulary.specs.declared.fields.CallFields.{CallFields}
-use Rattle.vocabulary.specs.declared.station.Station.{Station}
-use Rattle.vocabulary.specs.declared.station.Station.TheVariants.{A, B}
 use Rattle.cabinets.specs.Calls.{call_from}
-use Rattle.cabinets.specs.declared.call.Act.{Act}
-use Rattle.cabinets.specs.declared.call.Call.{Call}
-use Rattle.cabinets.specs.declared.call.Act.TheVariants.{Ask as ask, Accept as accept, Issue as issue, Depart as depart, Cancel as cancel, Arrive as arrive, SetBack as set_back, Report as report, Release as release, Hear as hear, DeclareDead as declare_dead, Resume as resume}
-use Rattle.cabinets.specs.declared.call.Call.TheVariants.{Act as act, DropLine as drop_line, MendLine as mend_line}
-use Rattle.law.specs.Runs.{KeepsMeaning, MayChoose, Run, just_made, then_called}
-use Rattle.cabinets.specs.Section.{Section}
 use Rattle.cabinets.specs.Tests.{tests}
-use Rattle.law.specs.Trials.{BenchTrials, NotEmpty, Played, first_of, play, telephone_chooses, trial_making, TrialsAreRuns}
-
-first_waits : (ms : List Message) → MayHear ms (first_of ms)
-first_waits [] = refl
-first_waits (m ∷ ms) = inl refl
-
-hearing_keeps : (x : Station) (s : Section) (minute : ℕ) → MayChoose x hear (telephone_chooses (Some (act x minute hear)) s) s
-hearing_keeps A s minute = record { answer = first_waits s.line.for_a; left = λ m i. absurd i; rest = refl }
-hearing_keeps B s minute = record { answer = first_waits s.line.for_b; left = λ m i. absurd i; rest = refl }
-
-act_keeps : (x : Station) (s : Section) (minute : ℕ) (a : Act) → MayChoose x a (telephone_chooses (Some (act x minute a)) s) s
-act_keeps x s minute (ask train) = tt
-act_keeps x s minute accept = tt
-act_keeps x s minute (issue train nature pass) = tt
-act_keeps x s minute depart = tt
-act_keeps x s minute cancel = tt
-act_keeps x s minute (arrive serial) = tt
-act_keeps x s minute (set_back serial) = tt
-act_keeps x s minute report = tt
-act_keeps x s minute release = tt
-act_keeps x s minute hear = hearing_keeps x s minute
-act_keeps x s minute declare_dead = tt
-act_keeps x s minute resume = tt
-
-telephone_keeps : (o : Option Call) (s : Section) → KeepsMeaning o (telephone_chooses o s) s
-telephone_keeps None s = tt
-telephone_keeps (Some (act x minute a)) s = λ e. act_keeps x s minute a
-telephone_keeps (Some drop_line) s = record { mark_is = refl; left_a = λ m i. absurd i; left_b = λ m i. absurd i; most_is = refl }
-telephone_keeps (Some mend_line) s = record { mark_is = refl; left_a = λ m i. i; left_b = λ m i. i; most_is = refl }
+use Rattle.rules.specs.Trials.{Played, telephone_chooses, trial_making}
+use Rattle.rules.proofs.Trials.{telephone_keeps}
+use Rattle.law.specs.Runs.{Run, just_made, then_called}
+use Rattle.law.specs.Trials.{BenchTrials, NotEmpty, TrialsAreRuns, play}
 
 played_runs : (fs : List CallFields) (p : Played) → Run p.history p.section → Run (play fs p).history (play fs p).section
 played_runs [] p run = run

@@ -1,5 +1,5 @@
-pub mod History
 pub mod Laws
 pub mod Runs
 pub mod Safety
 pub mod Trials
+pub use Rattle.rules.specs.History

@@ -1,4 +1,4 @@
-// The theorems, each demanded by a contract.
+// The theorems, each demanded by a contract: those of crate `rules`, of the runs of the cabinets themselves, whose counts have an end.
 ghost use Rattle.law.specs.Laws.{RulesHold};
 ghost use Rattle.law.specs.Safety.{EveryRunOneRight, EveryRunSafe};
 ghost use Rattle.law.specs.Trials.{BenchTrials, NotEmpty};

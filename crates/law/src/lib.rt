@@ -1,4 +1,4 @@
-// The law: what every run of the rules keeps, each theorem demanded by a contract.
+// The law: what every run of the cabinets keeps, each theorem demanded by a contract.
 #![tactic(auto)]
 
 pub mod laws;

@@ -1,6 +1,7 @@
 pub mod Keeping
 pub mod Laws
 pub mod Meaning
+pub mod PerStation
 pub mod Printer
 pub mod PrinterLaws
 pub mod Telephone

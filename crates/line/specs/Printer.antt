@@ -1,11 +1,10 @@
 -- The printer: eight messages may wait for each station.
-use Rattle.std.specs.Prelude.{◌≡◌, Bool, true, false, cond, not, ◌||◌, [], length, drop, Ok, Err, Option, Result, ◌==◌, nat_lt}
+use Rattle.std.specs.Prelude.{◌≡◌, Bool, true, false, cond, not, ◌||◌, [], length, drop, Ok, Err, Option, Result, ◌==◌, nat_lt, slice_get}
 use Rattle.vocabulary.specs.declared.fault.Fault.{Fault}
 use Rattle.vocabulary.specs.declared.fault.Fault.TheVariants.{Making}
 use Rattle.vocabulary.specs.declared.fault.MakingFault.TheVariants.{Space}
 use Rattle.vocabulary.specs.declared.station.Station.{Station}
 use Rattle.queue.specs.Model.{items, places, room_of, spare}
-use Rattle.queue.specs.Outcomes.{item_at}
 use Rattle.queue.specs.declared.Queue.{Queue}
 use Rattle.line.specs.declared.message.Message.{Message}
 use Rattle.line.specs.declared.printer.Printer.{Printer}
@@ -46,7 +45,7 @@ new_meaning (Err f) = Err f
 -- hearing answers the oldest message and removes it
 abbrev pub printer_hears : Printer → Station → Option Message → Printer → Type 0
 printer_hears p at r p' =
-    (r ≡ item_at (waits at (printer_meaning p)) 0)
+    (r ≡ slice_get (waits at (printer_meaning p)) 0)
     × (printer_meaning p' ≡ with_waits at (drop 1 (waits at (printer_meaning p))) (printer_meaning p))
 
 -- a drop loses none

@@ -1,7 +1,6 @@
 -- That the printer keeps the laws of a line.
 use Rattle.std.proofs.Common.{sym, subst, inl, inr, arith}
-use Rattle.std.specs.Prelude.{List, [], ◌∷◌, drop, refl}
-use Rattle.queue.specs.Outcomes.{item_at}
+use Rattle.std.specs.Prelude.{List, [], ◌∷◌, drop, refl, slice_get}
 use Rattle.line.specs.declared.message.Message.{Message}
 use Rattle.line.specs.Keeping.{heard_by, marked_by}
 use Rattle.line.specs.Laws.{Laws}
@@ -9,7 +8,7 @@ use Rattle.line.specs.Meaning.{MayHear, Within, waits}
 use Rattle.line.specs.Printer.{printer_drops, printer_hears, printer_meaning, printer_mends}
 
 -- the oldest message may be heard
-may_hear_first : (xs : List Message) → MayHear xs (item_at xs 0)
+may_hear_first : (xs : List Message) → MayHear xs (slice_get xs 0)
 may_hear_first [] = refl
 may_hear_first (x ∷ xs) = inl refl
 

@@ -2,19 +2,18 @@
 use Rattle.std.specs.Prelude.{◌≡◌, true, false, [], Option}
 use Rattle.std.specs.Option.{option_to_list}
 use Rattle.vocabulary.specs.declared.station.Station.{Station}
-use Rattle.vocabulary.specs.declared.station.Station.TheVariants.{A, B}
 use Rattle.line.specs.declared.message.Message.{Message}
 use Rattle.line.specs.declared.telephone.Telephone.{Telephone}
 use Rattle.line.specs.Meaning.{Meaning, fresh, with_up, with_waits}
+use Rattle.line.specs.PerStation.{value_at}
 
 -- what a telephone means
 abbrev pub telephone_meaning : Telephone → Meaning
-telephone_meaning t = record { up = t.up; for_a = option_to_list t.for_a; for_b = option_to_list t.for_b; most = 1 }
+telephone_meaning t = record { up = t.up; for_a = option_to_list t.messages.a; for_b = option_to_list t.messages.b; most = 1 }
 
 -- the message that waits for a station
 abbrev pub message_for : Station → Telephone → Option Message
-message_for A t = t.for_a
-message_for B t = t.for_b
+message_for at t = value_at at t.messages
 
 -- hearing answers the message that waits and removes it
 abbrev pub telephone_hears : Telephone → Station → Option Message → Telephone → Type 0

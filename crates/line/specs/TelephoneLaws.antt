@@ -17,8 +17,8 @@ may_hear_it None = refl
 may_hear_it (Some x) = inl refl
 
 may_hear_for : (at : Station) (t : Telephone) → MayHear (waits at (telephone_meaning t)) (message_for at t)
-may_hear_for A t = may_hear_it t.for_a
-may_hear_for B t = may_hear_it t.for_b
+may_hear_for A t = may_hear_it t.messages.a
+may_hear_for B t = may_hear_it t.messages.b
 
 pub telephone_laws : Laws telephone_meaning telephone_hears telephone_drops telephone_mends
 telephone_laws = record {

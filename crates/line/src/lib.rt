@@ -3,5 +3,6 @@
 
 pub mod line;
 pub mod message;
+pub mod per_station;
 pub mod printer;
 pub mod telephone;

@@ -33,7 +33,7 @@ pub trait Line {
     fn waiting(&self, at: Station) -> usize
         ensures { result ≡ length (waits at (meaning self.now)) };
 
-    // Posts a message to a station, and says whether it did.
+    // Posts a message to a station, and says whether it did: a bool, since a line that is down or full makes no error of its own.
     fn post(&mut self, to: Station, message: Message) -> bool
         ensures { (result, meaning self.new) ≡ posting to message (meaning self.old) };
 

@@ -10,7 +10,7 @@ pub enum MessageKind {
     Release = 4,
 }
 
-// A message. A field that its kind does not use is 0.
+// A message. A field that its kind does not use is 0: whoever posts writes all of them, and a line looks at none.
 #[derive(Clone, Copy, PartialEq, Eq, Debug)]
 pub struct Message {
     pub kind: MessageKind,
@@ -22,3 +22,13 @@ pub struct Message {
     // How many papers were handed in at the sender.
     pub taken: u32,
 }
+
+// What the space of a printer holds at first: nothing reads it.
+pub const NO_MESSAGE: Message = Message {
+    kind: MessageKind::Ask,
+    train: 0,
+    count: 0,
+    record: RecordNumber(0),
+    right: RightNumber(0),
+    taken: 0,
+};

@@ -6,13 +6,16 @@ ghost use Rattle.line.specs.TelephoneLaws.{telephone_laws};
 
 use crate::line::Line;
 use crate::message::Message;
+use crate::per_station::PerStation;
 use vocabulary::station::Station;
+
+// No message either way.
+const NONE: PerStation<Option<Message>> = PerStation { a: None, b: None };
 
 #[derive(Drop)]
 pub struct Telephone {
     up: bool,
-    for_a: Option<Message>,
-    for_b: Option<Message>,
+    messages: PerStation<Option<Message>>,
 }
 
 impl Telephone {
@@ -22,8 +25,7 @@ impl Telephone {
     {
         Telephone {
             up: true,
-            for_a: None,
-            for_b: None,
+            messages: NONE,
         }
     }
 }
@@ -44,35 +46,24 @@ impl Line for Telephone {
     }
 
     fn waiting(&self, at: Station) -> usize {
-        let message = match at {
-            Station::A => &self.for_a,
-            Station::B => &self.for_b,
-        };
-        if message.is_some() { 1 } else { 0 }
+        usize::from(self.messages.get(at).is_some())
     }
 
     fn post(&mut self, to: Station, message: Message) -> bool {
         if !self.up || self.waiting(to) > 0 {
             return false;
         }
-        match to {
-            Station::A => self.for_a = Some(message),
-            Station::B => self.for_b = Some(message),
-        }
+        let _ = self.messages.replace(to, Some(message));
         true
     }
 
     fn hear(&mut self, at: Station) -> Option<Message> {
-        match at {
-            Station::A => self.for_a.take(),
-            Station::B => self.for_b.take(),
-        }
+        self.messages.replace(at, None)
     }
 
     fn drop_line(&mut self) {
         self.up = false;
-        self.for_a = None;
-        self.for_b = None;
+        self.messages = NONE;
     }
 
     fn mend_line(&mut self) {

@@ -3,7 +3,6 @@ use Rattle.std.specs.Prelude.{true, false, Option}
 use Rattle.std.proofs.Common.{arith}
 use Rattle.std.specs.Option.{option_to_list}
 use Rattle.vocabulary.specs.declared.station.Station.{Station}
-use Rattle.vocabulary.specs.declared.station.Station.TheVariants.{A, B}
 use Rattle.line.specs.Laws.{Laws}
 use Rattle.line.specs.Meaning.{Heard, Marked, Meaning}
 use Rattle.line.specs.declared.message.Message.{Message}
@@ -11,12 +10,7 @@ use Rattle.line_tests.specs.declared.stutter.Stutter.{Stutter}
 
 -- what it means: one message may wait for each station
 abbrev pub stutter_meaning : Stutter → Meaning
-stutter_meaning s = record { up = s.up; for_a = option_to_list s.for_a; for_b = option_to_list s.for_b; most = 1 }
-
--- the message that waits for a station
-abbrev pub message_for : Station → Stutter → Option Message
-message_for A s = s.for_a
-message_for B s = s.for_b
+stutter_meaning s = record { up = s.up; for_a = option_to_list s.messages.a; for_b = option_to_list s.messages.b; most = 1 }
 
 -- a hearing, a drop and a mend do what a line may do
 abbrev pub stutter_hears : Stutter → Station → Option Message → Stutter → Type 0

@@ -1,18 +1,18 @@
 // A line that loses and repeats: every other hearing leaves the message to be heard again, a drop loses what waits for A, and a mend what waits for B.
-ghost use Rattle.std.specs.Prelude.{◌≡◌, []};
-ghost use Rattle.line.specs.Meaning.{fresh, with_waits};
-ghost use Rattle.line_tests.specs.Stutter.{message_for, stutter_drops, stutter_hears, stutter_laws, stutter_meaning, stutter_mends};
+ghost use Rattle.std.specs.Prelude.{◌≡◌};
+ghost use Rattle.line.specs.Meaning.{fresh};
+ghost use Rattle.line_tests.specs.Stutter.{stutter_drops, stutter_hears, stutter_laws, stutter_meaning, stutter_mends};
 
 use line::line::Line;
 use line::message::Message;
+use line::per_station::PerStation;
 use vocabulary::station::Station;
 
 #[derive(Drop)]
 pub struct Stutter {
     up: bool,
     repeats: bool,
-    for_a: Option<Message>,
-    for_b: Option<Message>,
+    messages: PerStation<Option<Message>>,
 }
 
 impl Stutter {
@@ -22,26 +22,7 @@ impl Stutter {
         Stutter {
             up: true,
             repeats: true,
-            for_a: None,
-            for_b: None,
-        }
-    }
-
-    fn message(&self, at: Station) -> Option<Message>
-        ensures { result ≡ message_for at self.now }
-    {
-        match at {
-            Station::A => self.for_a,
-            Station::B => self.for_b,
-        }
-    }
-
-    fn forget(&mut self, at: Station)
-        ensures { stutter_meaning self.new ≡ with_waits at [] (stutter_meaning self.old) }
-    {
-        match at {
-            Station::A => self.for_a = None,
-            Station::B => self.for_b = None,
+            messages: PerStation { a: None, b: None },
         }
     }
 }
@@ -62,24 +43,21 @@ impl Line for Stutter {
     }
 
     fn waiting(&self, at: Station) -> usize {
-        if self.message(at).is_some() { 1 } else { 0 }
+        usize::from(self.messages.get(at).is_some())
     }
 
     fn post(&mut self, to: Station, message: Message) -> bool {
-        if !self.up || self.message(to).is_some() {
+        if !self.up || self.waiting(to) > 0 {
             return false;
         }
-        match to {
-            Station::A => self.for_a = Some(message),
-            Station::B => self.for_b = Some(message),
-        }
+        let _ = self.messages.replace(to, Some(message));
         true
     }
 
     fn hear(&mut self, at: Station) -> Option<Message> {
-        let message = self.message(at);
+        let message = self.messages.get(at);
         if !self.repeats {
-            self.forget(at);
+            let _ = self.messages.replace(at, None);
         }
         self.repeats = !self.repeats;
         message
@@ -87,11 +65,11 @@ impl Line for Stutter {
 
     fn drop_line(&mut self) {
         self.up = false;
-        self.for_a = None;
+        self.messages.a = None;
     }
 
     fn mend_line(&mut self) {
         self.up = true;
-        self.for_b = None;
+        self.messages.b = None;
     }
 }

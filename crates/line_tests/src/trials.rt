@@ -11,6 +11,7 @@ use vocabulary::fault::{Fault, MakingFault};
 use vocabulary::number::{RecordNumber, RightNumber};
 use vocabulary::station::Station;
 
+// What a space holds before anything is posted: a release, where the day run begins with an ask, so that neither is relied on.
 const NONE: Message = Message {
     kind: MessageKind::Release,
     train: 0,
@@ -34,6 +35,7 @@ fn ask(count: u32) -> Message {
 
 // Posts asks to a station until its list is full, and one more, which is refused.
 fn fill<L: Line>(rt: &impl Abort, line: &mut L, to: Station, most: u32) {
+    // Over the counts that the asks have: no list has them.
     for count in 0..most {
         assert!(rt; line.post(to, ask(count)));
     }
@@ -43,6 +45,7 @@ fn fill<L: Line>(rt: &impl Abort, line: &mut L, to: Station, most: u32) {
 
 // Hears the asks that were posted to a station, in their order, and then none.
 fn hear_all<L: Line>(rt: &impl Abort, line: &mut L, at: Station, most: u32) -> Result<(), Fail> {
+    // Over the counts, as above.
     for count in 0..most {
         assert_eq!(rt; line.hear(at), Some(ask(count)));
     }

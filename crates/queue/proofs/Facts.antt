@@ -1,10 +1,11 @@
 -- What the shape of a queue says of its items and places.
 use Rattle.std.proofs.Common.{◌≡◌, ℕ, ◌<◌, ◌≤◌, length, set, ap, ◌∙◌, arith}
-use Rattle.std.proofs.lemmas.List.{drop-set-lt, length-set}
+use Rattle.std.proofs.lemmas.List.{drop-set-lt, length-set, take-take}
 use Rattle.queue.specs.Layout.{place_of}
 use Rattle.queue.specs.Model.{items, room_of, places, Kept}
 use Rattle.queue.specs.declared.Queue.{Queue}
-use Rattle.queue.proofs.Ring.{length-window, place_within}
+use Rattle.queue.proofs.Lists.{removed_last, removed_step}
+use Rattle.queue.proofs.Ring.{length-window, place_within, get_d_window, window_set, window_push, window_drop}
 
 -- the count is the number of items
 pub length-items : {X : Type 0} (q : Queue X) → length (items q) ≡ q.count
@@ -55,3 +56,12 @@ kept_trans p q r a b =
       fit_before = a.fit_before;
       fit_after = b.fit_after;
     }
+
+-- how many items there are, and where they stand
+pub ruleset sizes = (length-items, items_fit, place_in_room, item_in_space)
+
+-- and what becomes of them in the ring
+pub ruleset ring = (sizes, kept_space, kept_write, kept_trans, get_d_window, window_set, window_push, window_drop, take-take)
+
+-- and when a gap is closed
+pub ruleset gaps = (sizes, kept_trans, length-set, removed_step, removed_last)

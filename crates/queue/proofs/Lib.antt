@@ -1,3 +1,4 @@
 mod Ring
-mod Lists
 pub mod Facts
+pub mod Lists
+mod Runs

@@ -1,59 +1,44 @@
--- What the list functions of the outcomes answer and leave.
-use Rattle.std.proofs.Common.{◌≡◌, ℕ, zero, suc, ◌+◌, ◌-◌, ◌<◌, ◌≤◌, List, [], ◌∷◌, length, get_or, take, drop, set, Some, None, Err, refl, ap, arith}
-use Rattle.std.specs.List.{remove}
-use Rattle.std.proofs.lemmas.List.{append-nil, append_assoc, take_all, drop_all, drop_more, drop-set-lt, take_more_set, set_past}
-use Rattle.queue.specs.Outcomes.{item_at, front_taken, back_taken, replaced, taken_out}
+-- An item of a list, or none, and the list without it.
+use Rattle.std.proofs.Common.{◌≡◌, ℕ, zero, suc, ◌+◌, ◌-◌, ◌<◌, ◌≤◌, List, [], ◌∷◌, length, take, drop, set, Some, None, sym, arith}
+use Rattle.std.specs.List.{remove, slice_get, slice_range}
+use Rattle.std.proofs.lemmas.List.{append-nil, append_assoc, drop_all, drop_more, drop-set-lt, set_past, take_all, take_more_set}
+use Rattle.std.proofs.lemmas.Option.{get_or_from_slice_get, none-some, slice_get_within, gets}
 
 module _ {X : Type 0} where
-  -- what is found at a place
-  pub item_at_some : (xs : List X) (i : ℕ) (x : X) → i < length xs → x ≡ get_or xs i x → Some x ≡ item_at xs i
-  item_at_some [] i x l e = absurd (omega arith)
-  item_at_some (y ∷ ys) zero x l e = ap Some e
-  item_at_some (y ∷ ys) (suc i) x l e = item_at_some ys i x (omega arith) e
+  -- past the end there is none
+  past_end : (xs : List X) (i : ℕ) → slice_get xs i ≡ None → length xs ≤ i
+  past_end [] i e = omega arith
+  past_end (x ∷ xs) zero e = absurd (none-some x (sym e))
+  past_end (x ∷ xs) (suc i) e = let l = past_end xs i e in omega arith
 
-  pub item_at_none : (xs : List X) (i : ℕ) → length xs ≤ i → None ≡ item_at xs i
-  item_at_none [] i l = refl
-  item_at_none (y ∷ ys) zero l = absurd (omega arith)
-  item_at_none (y ∷ ys) (suc i) l = item_at_none ys i (omega arith)
-
-  pub item_at_getD : (xs : List X) (i : ℕ) (x : X) → Some x ≡ item_at xs i → x ≡ get_or xs i x
-  item_at_getD [] i x e = refl
-  item_at_getD (y ∷ ys) zero x e = cc
-  item_at_getD (y ∷ ys) (suc i) x e = item_at_getD ys i x e
-
-  -- where there is no item, nothing is answered and nothing changes
-  pub no_front : (xs : List X) → length xs ≡ 0 → (None, xs) ≡ front_taken xs
-  no_front [] e = refl
-  no_front (x ∷ xs) e = absurd (omega arith)
-
-  pub no_back : (xs : List X) → length xs ≡ 0 → (None, xs) ≡ back_taken xs
-  no_back [] e = refl
-  no_back (x ∷ xs) e = absurd (omega arith)
-
-  pub not_replaced : (xs : List X) (i : ℕ) (x : X) → length xs ≤ i → (Err x, xs) ≡ replaced xs i x
-  not_replaced xs i x l =
-      let a = item_at_none xs i l in
-      let b = set_past xs i x l in
-      cc
-
-  pub not_taken_out : (xs : List X) (i : ℕ) → length xs ≤ i → (None, xs) ≡ taken_out xs i
-  not_taken_out xs i l =
-      let a = item_at_none xs i l in
+  -- where there is none, nothing is taken out, and nothing is put in
+  pub none_out : (xs : List X) (i : ℕ) → slice_get xs i ≡ None → remove xs i ≡ xs
+  none_out xs i e =
+      let l = past_end xs i e in
       let b = take_all i xs l in
       let c = drop_all (suc i) xs (omega arith) in
       let d = append-nil xs in
       cc
 
-  -- the gap before j goes one further where the item at j moves into it
-  pub removed_step : (xs : List X) (j : ℕ) (x : X) → 0 < j → j < length xs → Some x ≡ item_at xs j → remove (set xs (j - 1) x) j ≡ remove xs (j - 1)
-  removed_step xs j x some l e =
-      let i = j - 1 in
-      let n : i + 1 ≡ j = omega arith in
+  pub none_in : (xs : List X) (i : ℕ) (x : X) → slice_get xs i ≡ None → set xs i x ≡ xs
+  none_in xs i x e = set_past xs i x (past_end xs i e)
+
+  -- an item, and those behind it
+  pub from_item : (xs : List X) (i j : ℕ) (x : X) → slice_get xs i ≡ Some x → i < j → slice_range xs i j ≡ x ∷ slice_range xs (i + 1) j
+  from_item xs i j x e l =
+      let m = drop_more xs i x (slice_get_within xs i x e) in
+      let g = get_or_from_slice_get xs i x x e in
+      let n : j - i ≡ suc (j - (i + 1)) = omega arith in
+      cc
+
+  -- the gap goes one further where the next item moves into it
+  pub removed_step : (xs : List X) (i j : ℕ) (x : X) → j ≡ i + 1 → j < length xs → slice_get xs j ≡ Some x → remove (set xs i x) j ≡ remove xs i
+  removed_step xs i j x n l e =
       let o : suc i ≡ j = omega arith in
       let t = take_more_set xs i x (omega arith) in
       let d = drop-set-lt (suc j) xs i x (omega arith) in
       let m = drop_more xs j x l in
-      let g = item_at_getD xs j x e in
+      let g = get_or_from_slice_get xs j x x e in
       let p : j + 1 ≡ suc j = omega arith in
       let a = append_assoc (take i xs) (x ∷ []) (drop (suc j) xs) in
       cc
@@ -64,3 +49,6 @@ module _ {X : Type 0} where
       let b = drop_all (suc (length xs - 1)) xs (omega arith) in
       let c = append-nil (take (length xs - 1) xs) in
       cc
+
+-- what a look at one place says
+pub ruleset looks = (gets, none_out, none_in, from_item)

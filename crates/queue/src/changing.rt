@@ -6,9 +6,11 @@ ghost use Rattle.queue.specs.Outcomes.{room_set, pushed, front_taken, back_taken
 
 use super::Queue;
 
+#[tactic(auto, using(crate::proofs::Facts::sizes))]
 impl<T: Copy> Queue<'_, T> {
     // Sets how many places of its space an empty queue may use. More places than the space has are
     // refused, and so is any change while there are items: the room is then handed back.
+    #[tactic(auto, using(crate::proofs::Facts::ring), unfolding(crate::specs::Model::items))]
     pub fn set_room(&mut self, room: usize) -> Result<(), usize>
         ensures held { (result, room_of self.new) ≡ room_set (length (items self.old)) (length (places self.old)) (room_of self.old) room }
         ensures items { items self.new ≡ items self.old }
@@ -16,10 +18,7 @@ impl<T: Copy> Queue<'_, T> {
         ensures space { self.new.space.ghost_name ≡ self.old.space.ghost_name }
         ensures refused { is_ok result ≡ false → self.new ≡ self.old }
     {
-        if !self.is_empty() {
-            return Err(room);
-        }
-        if room > self.space.len() {
+        if !self.is_empty() || room > self.space.len() {
             return Err(room);
         }
         self.room = room;
@@ -28,6 +27,7 @@ impl<T: Copy> Queue<'_, T> {
     }
 
     // Lets every item go. No place of the space is altered.
+    #[tactic(auto, using(crate::proofs::Facts::ring), unfolding(crate::specs::Model::items))]
     pub fn clear(&mut self)
         ensures held { items self.new ≡ [] }
         ensures places { places self.new ≡ places self.old }
@@ -57,78 +57,66 @@ impl<T: Copy> Queue<'_, T> {
         ensures kept { Kept self.old self.new }
         ensures refused { is_some result ≡ false → self.new ≡ self.old }
     {
-        if self.is_empty() {
-            return None;
-        }
-        let item = self.item(0);
+        let item = self.front()?;
         self.drop_front();
         Some(item)
     }
 
-    // Takes the last item.
+    // Takes the last item. It is told from `pop_front` by its end alone, in three lines.
     pub fn pop_back(&mut self) -> Option<T>
         ensures held { (result, items self.new) ≡ back_taken (items self.old) }
         ensures len { length (items self.new) + (if is_some result then 1 else 0) ≡ length (items self.old) }
         ensures kept { Kept self.old self.new }
         ensures refused { is_some result ≡ false → self.new ≡ self.old }
     {
-        let len = self.len();
-        if len == 0 {
-            return None;
-        }
-        let item = self.item(len - 1);
+        let item = self.back()?;
         self.drop_back();
         Some(item)
     }
 
     // Puts an item in the place of the one at `at`, which is the answer. Where there is none, the
     // new item is handed back.
+    #[tactic(auto, using(crate::proofs::Facts::sizes, crate::proofs::Lists::looks))]
     pub fn replace(&mut self, at: usize, item: T) -> Result<T, T>
         ensures held { (result, items self.new) ≡ replaced (items self.old) at item }
         ensures len { length (items self.new) ≡ length (items self.old) }
         ensures kept { Kept self.old self.new }
         ensures refused { is_ok result ≡ false → self.new ≡ self.old }
     {
-        if at >= self.len() {
-            return Err(item);
-        }
-        let old = self.item(at);
+        let old = self.get(at).ok_or(item)?;
         self.put(at, item);
         Ok(old)
     }
 
     // Takes out the item at `at`. The others keep their order.
+    #[tactic(auto, using(crate::proofs::Facts::sizes, crate::proofs::Lists::looks))]
     pub fn remove(&mut self, at: usize) -> Option<T>
         ensures held { (result, items self.new) ≡ taken_out (items self.old) at }
         ensures len { length (items self.new) + (if is_some result then 1 else 0) ≡ length (items self.old) }
         ensures kept { Kept self.old self.new }
         ensures refused { is_some result ≡ false → self.new ≡ self.old }
     {
-        if at >= self.len() {
-            return None;
-        }
-        let item = self.item(at);
+        let item = self.get(at)?;
         self.close_gap(at);
         Some(item)
     }
 
     // Adds an item at the back.
+    #[tactic(auto, using(crate::proofs::Facts::ring), unfolding(crate::specs::Model::items))]
     fn append(&mut self, item: T)
         requires { length (items self.old) < room_of self.old }
         ensures held { items self.new ≡ items self.old ++ item ∷ [] }
-        ensures len { length (items self.new) ≡ length (items self.old) + 1 }
         ensures kept { Kept self.old self.new }
     {
-        let end = self.count;
         self.count += 1;
-        self.put(end, item);
+        self.put(self.count - 1, item);
     }
 
     // Lets the first item go.
+    #[tactic(auto, using(crate::proofs::Facts::ring), unfolding(crate::specs::Model::items))]
     fn drop_front(&mut self)
         requires { 0 < length (items self.old) }
         ensures held { items self.new ≡ drop 1 (items self.old) }
-        ensures len { length (items self.new) + 1 ≡ length (items self.old) }
         ensures kept { Kept self.old self.new }
     {
         self.first = self.place(1);
@@ -136,39 +124,37 @@ impl<T: Copy> Queue<'_, T> {
     }
 
     // Lets the last item go.
+    #[tactic(auto, using(crate::proofs::Facts::ring), unfolding(crate::specs::Model::items))]
     fn drop_back(&mut self)
         requires { 0 < length (items self.old) }
         ensures held { items self.new ≡ take (length (items self.old) - 1) (items self.old) }
-        ensures len { length (items self.new) + 1 ≡ length (items self.old) }
         ensures kept { Kept self.old self.new }
     {
         self.count -= 1;
     }
 
     // Lets the item at `at` go: each one behind it moves one place forward.
+    #[tactic(auto, using(crate::proofs::Facts::gaps))]
     fn close_gap(&mut self, at: usize)
         requires { at < length (items self.old) }
         ensures held { items self.new ≡ remove (items self.old) at }
-        ensures len { length (items self.new) + 1 ≡ length (items self.old) }
         ensures kept { Kept self.old self.new }
     {
-        let len = self.len();
-        let after = at + 1;
-        for next in after..len {
-            let moved = self.item(next);
-            self.put(next - 1, moved);
+        // By number, since no slice holds the items in their order.
+        for gap in at..self.len() - 1 {
+            let next = self.item(gap + 1);
+            self.put(gap, next);
         }
         self.drop_back();
     }
 
     // Puts an item in the place of the one at `at`.
+    #[tactic(auto, using(crate::proofs::Facts::ring), unfolding(crate::specs::Model::items))]
     fn put(&mut self, at: usize, item: T)
         requires { at < length (items self.old) }
         ensures held { items self.new ≡ slice_set (items self.old) at item }
-        ensures len { length (items self.new) ≡ length (items self.old) }
         ensures kept { Kept self.old self.new }
     {
-        let place = self.place(at);
-        self.space[place] = item;
+        self.space[self.place(at)] = item;
     }
 }

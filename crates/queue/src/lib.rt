@@ -4,7 +4,10 @@
 ghost use Rattle.std.specs.Prelude.{◌≤◌, length};
 
 mod changing;
+mod iterator;
 mod looking;
+
+pub use iterator::Iter;
 
 // A queue of at most `room` items, kept in the first `room` places of a lent space. The places
 // beyond are never touched. Where in the room the items stand is left open: they lie in a ring,

@@ -1,13 +1,15 @@
 // Making a queue, and looking at what it holds.
-ghost use Rattle.std.specs.Prelude.{◌≡◌, ◌<◌, ◌≤◌, [], length, Some, ◌==◌, nat_le};
+ghost use Rattle.std.specs.Prelude.{◌≡◌, ◌<◌, ◌≤◌, [], length, Some, ◌==◌, nat_le, slice_get};
 ghost use Rattle.queue.specs.Layout.{place_of};
 ghost use Rattle.queue.specs.Model.{items, room_of, places};
-ghost use Rattle.queue.specs.Outcomes.{item_at, last_item};
+ghost use Rattle.queue.specs.Outcomes.{last_item};
 
 use super::Queue;
 
+#[tactic(auto, using(crate::proofs::Facts::sizes))]
 impl<'a, T: Copy> Queue<'a, T> {
     // An empty queue that may use the whole space. No place of the space is altered.
+    #[tactic(auto, using(crate::proofs::Facts::ring), unfolding(crate::specs::Model::items))]
     pub fn new(space: &'a mut [T]) -> Queue<'a, T>
         ensures empty { items result ≡ [] }
         ensures room { room_of result ≡ length space.old }
@@ -61,7 +63,7 @@ impl<'a, T: Copy> Queue<'a, T> {
 
     // The first item.
     pub fn front(&self) -> Option<T>
-        ensures { result ≡ item_at (items self.now) 0 }
+        ensures { result ≡ slice_get (items self.now) 0 }
     {
         self.get(0)
     }
@@ -70,16 +72,13 @@ impl<'a, T: Copy> Queue<'a, T> {
     pub fn back(&self) -> Option<T>
         ensures { result ≡ last_item (items self.now) }
     {
-        let len = self.len();
-        if len == 0 {
-            return None;
-        }
-        self.get(len - 1)
+        let last = self.len().checked_sub(1)?;
+        self.get(last)
     }
 
     // The item at `at`, counted from 0 at the front.
     pub fn get(&self, at: usize) -> Option<T>
-        ensures { result ≡ item_at (items self.now) at }
+        ensures { result ≡ slice_get (items self.now) at }
     {
         if at < self.len() {
             Some(self.item(at))
@@ -89,13 +88,12 @@ impl<'a, T: Copy> Queue<'a, T> {
     }
 
     // The item at `at`.
+    #[tactic(auto, using(crate::proofs::Facts::ring), unfolding(crate::specs::Model::items))]
     pub(super) fn item(&self, at: usize) -> T
         requires { at < length (items self.now) }
-        ensures { Some result ≡ item_at (items self.now) at }
+        ensures { Some result ≡ slice_get (items self.now) at }
     {
-        let place = self.place(at);
-        let space = &*self.space;
-        space[place]
+        self.space[self.place(at)]
     }
 
     // Where the item at `at` stands in the space, or would stand.

@@ -1,7 +1,7 @@
 // Small callers of the queue, proved from its contracts alone, and runs of it.
 #![tactic(auto)]
 
-ghost use Rattle.std.specs.Prelude.{◌≡◌, ◌+◌, ◌<◌, ◌≤◌, [], ◌∷◌, ◌++◌, length, Some};
+ghost use Rattle.std.specs.Prelude.{◌≡◌, ◌+◌, ◌<◌, ◌≤◌, [], ◌∷◌, ◌++◌, length, Some, count_by};
 ghost use Rattle.queue.specs.Model.{items, room_of};
 
 use queue::Queue;
@@ -29,7 +29,7 @@ struct Tray<'a, 'b> {
 }
 
 impl Line<'_, '_, '_, '_> {
-    // Moves the first message on. None is lost where there is room for it.
+    // Moves the first message on, and says whether it did, as a line does. None is lost where there is room for it.
     fn relay(&mut self) -> bool
         requires { length (items self.old.going.now) < room_of self.old.going.now }
         ensures { length (items self.new.coming.now) + length (items self.new.going.now) ≡ length (items self.old.coming.now) + length (items self.old.going.now) }
@@ -49,7 +49,7 @@ impl Tray<'_, '_> {
         self.papers.push_back(paper)
     }
 
-    // Takes every paper out.
+    // Takes every paper out, one after another until none is left: `Queue::clear` would do it at once, and this is the trial of a loop over a queue.
     fn clear(&mut self)
         ensures { items self.new.papers.now ≡ [] }
     {
@@ -76,12 +76,19 @@ fn two_more<T: Copy>(q: &mut Queue<'_, T>, x: T, y: T) -> usize
     q.len()
 }
 
+// How many messages are urgent.
+fn urgent(q: &Queue<'_, Message>) -> usize
+    ensures { result ≡ count_by (λ m. m.urgent) (items q.now) }
+{
+    q.iter().filter(|message| message.urgent).count()
+}
+
 // A full queue stays the very same.
-fn one_too_many(q: &mut Queue<'_, u32>, x: u32) -> bool
+fn one_too_many(q: &mut Queue<'_, u32>, x: u32) -> Result<(), u32>
     requires { length (items q.old) ≡ room_of q.old }
     ensures { q.new ≡ q.old }
 {
-    q.push_back(x).is_ok()
+    q.push_back(x)
 }
 
 // Takes out the second of three items, and replaces the one behind it.

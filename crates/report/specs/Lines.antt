@@ -1,7 +1,8 @@
 -- The lines of a day's report, as text.
 use Rattle.std.specs.Prelude.{ℕ, List, ◌++◌, codes, decimal}
 use Rattle.section.specs.declared.turn.Turn.{Turn}
-use Rattle.report.specs.Words.{answer_words, counts_words, station_word, track_word}
+use Rattle.vocabulary.specs.Words.{track_word}
+use Rattle.report.specs.Words.{answer_words, counts_words, station_at, station_letter}
 use Rattle.report.specs.declared.values.End.{End}
 use Rattle.report.specs.declared.values.Made.{Made}
 
@@ -16,7 +17,7 @@ made_line m =
 abbrev pub call_line : Turn → List ℕ
 call_line c =
     decimal c.place ++ (codes " " ++ (decimal c.fields.call
-    ++ (codes " " ++ (station_word c.fields
+    ++ (codes " " ++ (station_letter (station_at c.fields)
     ++ (codes " " ++ answer_words c.answer)))))
 
 -- the end: the papers live, then what the cabinets of A and of B counted

@@ -1,10 +1,9 @@
 // The lines of a day's report.
 ghost use Rattle.std.specs.Prelude.{◌≡◌, IfOk, Some, string_bytes};
 ghost use Rattle.report.specs.Lines.{call_line, end_line, made_line};
-ghost use Rattle.report.specs.Words.{answer_words, counts_words, station_letter, station_word, track_word};
+ghost use Rattle.report.specs.Words.{answer_words, counts_words, station_at, station_letter};
 
 use crate::values::{Counts, End, Made};
-use cabinets::track::TrackKind;
 use section::turn::Turn;
 use std::alloc::{AllocError, Global};
 use std::fmt;
@@ -16,11 +15,15 @@ use vocabulary::station::Station;
 #[derive(Clone, Copy)]
 struct Answer(Result<u32, Fault>);
 
+// A station to be shown, or a dash where there is none. `Option` has no `Display`, and may get none here.
+#[derive(Clone, Copy)]
+struct At(Option<Station>);
+
 // How the section was made: the track, the running time and the size of the tray.
 pub fn made_line(heap: Global, section: &Made) -> Result<String, AllocError>
     ensures { IfOk result (λ s. string_bytes s ≡ made_line section.now) }
 {
-    let track = track_word(section.track);
+    let track = section.track;
     let running_time = section.running_time;
     let tray = section.tray;
     format!(in heap; "made {track} {running_time} {tray}")
@@ -32,7 +35,7 @@ pub fn call_line(heap: Global, turn: &Turn) -> Result<String, AllocError>
 {
     let place = turn.place;
     let call = turn.fields.call;
-    let station = station_word(&turn.fields);
+    let station = At(station(&turn.fields));
     let answer = Answer(turn.answer);
     format!(in heap; "{place} {call} {station} {answer}")
 }
@@ -61,6 +64,17 @@ impl fmt::Display for Answer {
     }
 }
 
+impl fmt::Display for At {
+    ghost output = { λ x. Some (station_letter x.0) };
+
+    fn fmt<W: fmt::Write>(&self, f: &mut fmt::Formatter<W>) -> fmt::Result {
+        match self.0 {
+            Some(station) => write!(f, "{station}"),
+            None => write!(f, "-"),
+        }
+    }
+}
+
 impl fmt::Display for Counts {
     ghost output = { λ x. Some (counts_words x) };
 
@@ -73,31 +87,12 @@ impl fmt::Display for Counts {
     }
 }
 
-fn track_word(track: TrackKind) -> &'static str
-    ensures { result.now ≡ track_word track }
+// The station of a call: none for a drop or a mend of the line, and where the byte stands for none.
+fn station(fields: &CallFields) -> Option<Station>
+    ensures { result ≡ station_at fields.now }
 {
-    match track {
-        TrackKind::Single => "single",
-        TrackKind::OneWay => "one-way",
-    }
-}
-
-// The station of a call, or a dash: a drop or a mend of the line is at no station, and some bytes stand for none.
-fn station_word(fields: &CallFields) -> &'static str
-    ensures { result.now ≡ station_word fields.now }
-{
-    match CallKind::of_byte(fields.call) {
-        Some(CallKind::DropLine | CallKind::MendLine) => "-",
-        _ => station_letter(Station::of_byte(fields.station)),
-    }
-}
-
-fn station_letter(station: Option<Station>) -> &'static str
-    ensures { result.now ≡ station_letter station }
-{
-    match station {
-        Some(Station::A) => "A",
-        Some(Station::B) => "B",
-        None => "-",
+    match CallKind::try_from(fields.call) {
+        Ok(CallKind::DropLine | CallKind::MendLine) => None,
+        _ => Station::try_from(fields.station).ok(),
     }
 }

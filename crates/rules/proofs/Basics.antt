@@ -4,10 +4,10 @@ use Rattle.vocabulary.specs.Stations.{opposite}
 use Rattle.vocabulary.specs.declared.station.Station.{Station}
 use Rattle.vocabulary.specs.declared.station.Station.TheVariants.{A, B}
 use Rattle.rules.specs.History.{one_more_if}
-use Rattle.rules.specs.Refusals.{NoneHolds, Test, refusal, refuse}
+use Rattle.cabinets.specs.Refusals.{NoneHolds, Test, refusal, refuse}
 use Rattle.rules.specs.Safety.{In}
-use Rattle.rules.specs.Tray.{but_youngest, departed_at, same_station, youngest, youngest_departed}
-use Rattle.rules.specs.declared.paper.Paper.{Paper}
+use Rattle.cabinets.specs.Tray.{but_youngest, departed_at, same_station, youngest, youngest_departed}
+use Rattle.cabinets.specs.declared.paper.Paper.{Paper}
 
 pub same_refl : (x : Station) → same_station x x ≡ true
 same_refl A = refl

@@ -3,19 +3,22 @@ use Rattle.std.proofs.Common.{◌≡◌, ℕ, ◌+◌, ◌<◌, Bool, true, fals
 use Rattle.std.proofs.lemmas.Bool.{eqb-true, not-false}
 use Rattle.line.specs.declared.message.Message.{Message}
 use Rattle.vocabulary.specs.Stations.{opposite}
+use Rattle.vocabulary.specs.declared.number.Serial.{Serial}
 use Rattle.vocabulary.specs.declared.station.Station.{Station}
-use Rattle.rules.specs.Cabinets.{with_clock}
-use Rattle.rules.specs.Calls.{Act, act, ask, accept, issue, depart, cancel, arrive, set_back, report, release, hear, declare_dead, resume}
+use Rattle.cabinets.specs.Cabinets.{with_clock}
+use Rattle.cabinets.specs.declared.call.Act.{Act}
+use Rattle.cabinets.specs.declared.call.Act.TheVariants.{Issue as issue, Depart as depart, Cancel as cancel, Arrive as arrive, SetBack as set_back, Hear as hear}
+use Rattle.cabinets.specs.declared.call.Call.TheVariants.{Act as act}
 use Rattle.rules.specs.Effects.{answer_of, here_after, paper_for, tray_after}
 use Rattle.rules.specs.History.{Deed, Name, count_cancelled, count_handed_in, count_made, count_set_back, counted, deed_by, departure, made, name, no_deed, one_more_if, same_name, times, times_closed}
-use Rattle.rules.specs.Refusals.{NoneHolds}
+use Rattle.cabinets.specs.Refusals.{NoneHolds}
 use Rattle.rules.specs.Safety.{name_of}
-use Rattle.rules.specs.Section.{View}
-use Rattle.rules.specs.Tests.{tests}
-use Rattle.rules.specs.Tray.{but_oldest, but_youngest, in_hand, is_out, oldest, serial_of, youngest, youngest_departed}
-use Rattle.rules.specs.declared.cabinet.Cabinet.{Cabinet}
-use Rattle.rules.specs.declared.paper.Paper.{Paper}
-use Rattle.rules.specs.declared.track.Nature.{Nature}
+use Rattle.cabinets.specs.Section.{View}
+use Rattle.cabinets.specs.Tests.{tests}
+use Rattle.cabinets.specs.Tray.{but_oldest, but_youngest, in_hand, is_out, oldest, serial_of, youngest, youngest_departed}
+use Rattle.cabinets.specs.declared.cabinet.Cabinet.{Cabinet}
+use Rattle.cabinets.specs.declared.paper.Paper.{Paper}
+use Rattle.vocabulary.specs.declared.kind.Nature.{Nature}
 use Rattle.rules.proofs.Basics.{not_other, other_same, same_other, same_refl}
 use Rattle.rules.proofs.Ledger.{Ledger, close_first, close_last, making_kept, same_name_true, sending_kept, times_push}
 use Rattle.rules.proofs.Numbers.{Held, Numbers}
@@ -106,22 +109,22 @@ module _ (x : Station) (minute : ℕ) (v : View) (n : Numbers x v) (ds : List De
         theirs = record { issued_is = t.theirs.issued_is; cancelled_is = rw (same_other x) t.theirs.cancelled_is; back_is = t.theirs.back_is; taken_is = t.theirs.taken_is; above = t.theirs.above };
       }
 
-  told_set_back : (serial : ℕ) → NoneHolds (tests x minute (set_back serial) v) → After (set_back serial)
+  told_set_back : (serial : Serial) → NoneHolds (tests x minute (set_back serial) v) → After (set_back serial)
   unfolding tests
   told_set_back serial p =
-      let q = held_out x serial v n (not-false (is_out x serial (youngest v.tray)) p.1.1.0) in
+      let q = held_out x serial.0 v n (not-false (is_out x serial.0 (youngest v.tray)) p.1.1.0) in
       record {
         ledger = closed_last q.0;
         ours = record { issued_is = t.ours.issued_is; cancelled_is = t.ours.cancelled_is; back_is = rw (same_refl x) (omega (arith, t.ours.back_is)); taken_is = t.ours.taken_is; above = t.ours.above };
         theirs = record { issued_is = t.theirs.issued_is; cancelled_is = t.theirs.cancelled_is; back_is = rw (same_other x) t.theirs.back_is; taken_is = t.theirs.taken_is; above = t.theirs.above };
       }
 
-  told_arrive : (serial : ℕ) → NoneHolds (tests x minute (arrive serial) v) → After (arrive serial)
+  told_arrive : (serial : Serial) → NoneHolds (tests x minute (arrive serial) v) → After (arrive serial)
   unfolding tests
   told_arrive serial p =
-      let o = out_is (opposite x) serial (oldest v.tray) (not-false (is_out (opposite x) serial (oldest v.tray)) p.1.0) in
+      let o = out_is (opposite x) serial.0 (oldest v.tray) (not-false (is_out (opposite x) serial.0 (oldest v.tray)) p.1.0) in
       let q = o.0 in
-      let same : name_of q ≡ name (opposite x) serial = ap (λ y. name y q.serial.0) o.2 ∙ ap (λ m. name (opposite x) m) (eqb-true q.serial.0 serial o.4) in
+      let same : name_of q ≡ name (opposite x) serial.0 = ap (λ y. name y q.serial.0) o.2 ∙ ap (λ m. name (opposite x) m) (eqb-true q.serial.0 serial.0 o.4) in
       let l : Ledger (made ds) (λ k. one_more_if (same_name (name_of q) k) (times_closed k ds)) (λ k. departure k ds) (but_oldest v.tray) = close_first t.ledger q (but_oldest v.tray) (oldest_is v.tray q o.1) in
       record {
         ledger = subst (λ j. Ledger (made ds) (λ k. one_more_if (same_name j k) (times_closed k ds)) (λ k. departure k ds) (but_oldest v.tray)) same l;
@@ -139,17 +142,12 @@ same_told c' i k b n t = record {
 
 -- every act keeps the ledger and the counts
 pub step_told : (x : Station) (minute : ℕ) (a : Act) (came : Option Message) (v : View) → Numbers x v → NoneHolds (tests x minute a v) → (ds : List Deed) → ToldBy x ds v.here v.there v.tray → ToldBy x (deed_by (act x minute a) (answer_of minute a came v) ∷ ds) (here_after x minute a came v.tray v.here) v.there (tray_after x minute a v)
-step_told x minute (ask train) came v n p ds t = same_told _ refl refl refl refl t
-step_told x minute accept came v n p ds t = same_told _ refl refl refl refl t
 step_told x minute (issue train nature pass) came v n p ds t = told_issue x minute v n ds t came train nature pass
 step_told x minute depart came v n p ds t = told_depart x minute v n ds t came p
 step_told x minute cancel came v n p ds t = told_cancel x minute v n ds t came p
 step_told x minute (arrive serial) came v n p ds t = told_arrive x minute v n ds t came serial p
 step_told x minute (set_back serial) came v n p ds t = told_set_back x minute v n ds t came serial p
-step_told x minute report came v n p ds t = same_told _ refl refl refl refl t
-step_told x minute release came v n p ds t = same_told _ refl refl refl refl t
 step_told x minute hear came v n p ds t =
     let k = heard_kept came (with_clock minute v.here) in
     same_told _ k.issued k.cancelled k.set_back k.taken t
-step_told x minute declare_dead came v n p ds t = same_told _ refl refl refl refl t
-step_told x minute resume came v n p ds t = same_told _ refl refl refl refl t
+step_told x minute a came v n p ds t = same_told _ refl refl refl refl t

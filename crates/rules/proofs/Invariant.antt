@@ -9,24 +9,28 @@ use Rattle.vocabulary.specs.declared.fault.CallFault.{CallFault}
 use Rattle.vocabulary.specs.declared.fault.MakingFault.{MakingFault}
 use Rattle.vocabulary.specs.declared.station.Station.{Station}
 use Rattle.vocabulary.specs.declared.station.Station.TheVariants.{A, B}
-use Rattle.rules.specs.Calls.{Act, Call, act, call_from, drop_line, mend_line, ask, accept, issue, depart, cancel, arrive, set_back, report, release, hear, declare_dead, resume}
+use Rattle.cabinets.specs.Calls.{call_from}
+use Rattle.cabinets.specs.declared.call.Act.{Act}
+use Rattle.cabinets.specs.declared.call.Call.{Call}
+use Rattle.cabinets.specs.declared.call.Act.TheVariants.{Hear as hear}
+use Rattle.cabinets.specs.declared.call.Call.TheVariants.{Act as act, DropLine as drop_line, MendLine as mend_line}
 use Rattle.rules.specs.Effects.{answer_of, view_after}
 use Rattle.rules.specs.History.{Deed, History, Name, deed_by, deed_of, deeds, departure, live, name, no_deed, of_station}
-use Rattle.rules.specs.Making.{Making, made_unless, making_tests, new_section, some_wait}
+use Rattle.cabinets.specs.Making.{Making, made_unless, making_tests, new_section, some_wait}
 use Rattle.rules.specs.Outcome.{Choice, judged, left, marked, outcome_of, section_after}
-use Rattle.rules.specs.Refusals.{NoneHolds, refusal}
-use Rattle.rules.specs.Rights.{has_right}
+use Rattle.cabinets.specs.Refusals.{NoneHolds, refusal}
+use Rattle.cabinets.specs.Rights.{has_right}
 use Rattle.rules.specs.Runs.{KeepsMeaning, MayChoose, Run, just_made, then_called}
 use Rattle.rules.specs.Safety.{CountsKept, EveryRunOneRight, EveryRunSafe, In, Live, RightKept, Safe, name_of}
-use Rattle.rules.specs.Section.{Section, View, cabinet, seen}
-use Rattle.rules.specs.Tests.{tests}
-use Rattle.rules.specs.Track.{interval}
-use Rattle.rules.specs.declared.cabinet.Cabinet.{Cabinet}
-use Rattle.rules.specs.declared.paper.Paper.{Paper}
+use Rattle.cabinets.specs.Section.{Section, View, cabinet, seen}
+use Rattle.cabinets.specs.Tests.{tests}
+use Rattle.cabinets.specs.Track.{interval}
+use Rattle.cabinets.specs.declared.cabinet.Cabinet.{Cabinet}
+use Rattle.cabinets.specs.declared.paper.Paper.{Paper}
 use Rattle.rules.proofs.Basics.{not_other, passed}
 use Rattle.rules.proofs.Counts.{ToldBy, step_told}
 use Rattle.rules.proofs.Ledger.{named, names_of_station}
-use Rattle.rules.proofs.Numbers.{Free, Has, Numbers, Phase, Told, bound_lacks, fewer, free, has_from, ours, theirs}
+use Rattle.rules.proofs.Numbers.{Free, Has, Numbers, Phase, Told, bound_lacks, few_gone, fewer, free, has_from, ours, theirs}
 use Rattle.rules.proofs.Steps.{Hears, all_own, step}
 use Rattle.rules.proofs.Times.{Times, later, old_theirs, own_times}
 
@@ -95,19 +99,9 @@ from_a s i = record {
 
 -- what a hearing station is told of the line
 hears : (x : Station) (a : Act) (ch : Choice) (s : Section) → MayChoose x a ch s → Hears a ch.came (left x ch) (seen x s)
-hears x (ask train) ch s k = tt
-hears x accept ch s k = tt
-hears x (issue train nature pass) ch s k = tt
-hears x depart ch s k = tt
-hears x cancel ch s k = tt
-hears x (arrive serial) ch s k = tt
-hears x (set_back serial) ch s k = tt
-hears x report ch s k = tt
-hears x release ch s k = tt
 hears A hear ch s k = (k.answer, k.left)
 hears B hear ch s k = (k.answer, k.left)
-hears x declare_dead ch s k = tt
-hears x resume ch s k = tt
+hears x a ch s k = tt
 
 -- a line dropped or mended
 marked_kept : {ds : List Deed} (mark : Bool) (ch : Choice) (s : Section) → Within ch.left_a s.line.for_a → Within ch.left_b s.line.for_b → Inv ds A (seen A s) → Inv ds A (seen A (marked mark ch s))
@@ -148,8 +142,8 @@ new_kept m a b = record {
     phase = free refl (inl refl);
     sent = no_told 0 0 0 m.line.for_b b;
     coming = no_told 0 0 0 m.line.for_a a;
-    books = record { all = refl; out = refl; heard = omega arith };
-    theirs_too = record { all = refl; out = refl; heard = omega arith };
+    books = record { all = refl; out = refl; heard = omega arith; few = omega arith };
+    theirs_too = record { all = refl; out = refl; heard = omega arith; few = omega arith };
   };
   own = no_times A (interval (new_section m).track);
   other = no_times B (interval (new_section m).track);
@@ -216,6 +210,33 @@ safe_by {ds} {s} i = record {
     apart : (x : Station) (m n t u : ℕ) → Live (name x m) ds → Live (name x n) ds → (m ≡ n → ⊥) → departure (name x m) ds ≡ Some t → departure (name x n) ds ≡ Some u → (t + interval s.track ≤ u) ⊎ (u + interval s.track ≤ t)
     apart A = spaced i A _ _ i.own
     apart B = spaced i B _ _ i.other
+
+-- no count of a cabinet comes near an end
+pub record Few (c : Cabinet) : Type 0 where
+  pub gone : c.gone ≤ 9_999
+  pub taken : c.taken ≤ 9_999
+  pub cancelled : c.cancelled ≤ 9_999
+  pub set_back : c.set_back ≤ 9_999
+
+pub few_counts : (h : History) (s : Section) → Run h s → (x : Station) → Few (cabinet x s)
+few_counts h s run = few
+  where
+    n : Numbers A (seen A s)
+    n = (invariant h s run).numbers
+
+    few : (x : Station) → Few (cabinet x s)
+    few A = record {
+      gone = few_gone n.books;
+      taken = omega (arith, n.theirs_too.all, n.theirs_too.few);
+      cancelled = omega (arith, n.books.all, n.books.few);
+      set_back = omega (arith, n.books.all, n.books.few);
+    }
+    few B = record {
+      gone = few_gone n.theirs_too;
+      taken = omega (arith, n.books.all, n.books.few);
+      cancelled = omega (arith, n.theirs_too.all, n.theirs_too.few);
+      set_back = omega (arith, n.theirs_too.all, n.theirs_too.few);
+    }
 
 -- where the right is
 lacks : (x : Station) (c : Cabinet) → (Has x c.right.0 → ⊥) → has_right x c ≡ false

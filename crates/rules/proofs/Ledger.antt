@@ -6,8 +6,8 @@ use Rattle.std.proofs.lemmas.Bool.Decides.{nat_tests}
 use Rattle.vocabulary.specs.declared.station.Station.{Station}
 use Rattle.rules.specs.History.{Name, name, of_station, one_more_if, same_name, those, times}
 use Rattle.rules.specs.Safety.{In, name_of}
-use Rattle.rules.specs.Tray.{departed_at, same_station}
-use Rattle.rules.specs.declared.paper.Paper.{Paper}
+use Rattle.cabinets.specs.Tray.{departed_at, same_station}
+use Rattle.cabinets.specs.declared.paper.Paper.{Paper}
 use Rattle.rules.proofs.Basics.{in_front, in_last, in_split, one_more_swap, one_more_up, same_refl, same_true, tally}
 use Rattle.rules.proofs.Numbers.{is_of}
 

@@ -1,9 +1,9 @@
-mod Basics
+pub mod Basics
 mod Numbers
 mod Steps
-mod Times
+pub mod Times
 mod Ledger
 mod Counts
-mod Invariant
-mod Refused
-mod Trials
+pub mod Invariant
+pub mod Refused
+pub mod Trials

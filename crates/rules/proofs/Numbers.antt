@@ -7,13 +7,14 @@ use Rattle.vocabulary.specs.Stations.{opposite}
 use Rattle.vocabulary.specs.declared.number.RightNumber.{RightNumber}
 use Rattle.vocabulary.specs.declared.station.Station.{Station}
 use Rattle.vocabulary.specs.declared.station.Station.TheVariants.{A, B}
-use Rattle.rules.specs.Rights.{has_right}
+use Rattle.rules.specs.History.{one_more_if}
+use Rattle.cabinets.specs.Rights.{has_right}
 use Rattle.rules.specs.Safety.{In}
-use Rattle.rules.specs.Section.{View}
-use Rattle.rules.specs.Tests.{trains_out}
-use Rattle.rules.specs.Tray.{in_hand, is_in_hand, same_station}
-use Rattle.rules.specs.declared.cabinet.Cabinet.{Cabinet}
-use Rattle.rules.specs.declared.paper.Paper.{Paper}
+use Rattle.cabinets.specs.Section.{View}
+use Rattle.cabinets.specs.Tests.{trains_out}
+use Rattle.cabinets.specs.Tray.{in_hand, is_in_hand, same_station}
+use Rattle.cabinets.specs.declared.cabinet.Cabinet.{Cabinet}
+use Rattle.cabinets.specs.declared.paper.Paper.{Paper}
 use Rattle.rules.proofs.Basics.{in_last, same_refl, tally, tally_some, youngest_push}
 
 abbrev pub side : Station → ℕ
@@ -79,6 +80,21 @@ pub record Books (x : Station) (tray : List Paper) (issued cancelled back gone k
   pub all : issued ≡ tally (is_of x) tray + cancelled + back + taken
   pub out : gone ≡ tally (is_sent x) tray + taken
   pub heard : known ≤ taken
+  pub few : issued ≤ 9_999
+
+-- papers sent are among those issued
+sent_of : (x : Station) (ps : List Paper) → tally (is_sent x) ps ≤ tally (is_of x) ps
+sent_of x [] = omega arith
+sent_of x (p ∷ ps) = keep (same_station p.station x) (is_some p.departed) (sent_of x ps)
+  where
+    keep : (a b : Bool) → tally (is_sent x) ps ≤ tally (is_of x) ps → one_more_if (a && b) (tally (is_sent x) ps) ≤ one_more_if a (tally (is_of x) ps)
+    keep true true l = omega arith
+    keep true false l = omega arith
+    keep false b l = l
+
+-- no count of a station reaches its end
+pub few_gone : {x : Station} {tray : List Paper} {issued cancelled back gone known taken : ℕ} → Books x tray issued cancelled back gone known taken → gone ≤ 9_999
+few_gone {x} {tray} b = omega (arith, b.all, b.out, b.few, sent_of x tray)
 
 pub record Numbers (x : Station) (v : View) : Type 0 where
   pub phase : Phase x v.here.right.0 v.there.right.0 v.tray

@@ -1,25 +1,27 @@
 -- Each act keeps the invariant on numbers.
 use Rattle.std.proofs.Common.{◌≡◌, ℕ, ◌+◌, ◌<◌, ◌≤◌, max, Bool, true, false, cond, not, ◌&&◌, eqb, ltb, List, [], ◌∷◌, ◌++◌, length, is_some, Some, None, Option, sym, refl, ap, ◌∙◌, inl, inr, ⊎_elim, arith}
 use Rattle.std.proofs.lemmas.List.{length_push}
-use Rattle.std.proofs.lemmas.Bool.{and_parts, cases_lt, le-ltb, lt-ltb, not-false}
+use Rattle.std.proofs.lemmas.Bool.{and_parts, cases_lt, le-ltb, leb-false, lt-ltb, not-false, or_parts}
 use Rattle.line.specs.Meaning.{In as Waits, MayHear, Within}
 use Rattle.line.specs.declared.message.Message.{Message}
 use Rattle.line.specs.declared.message.MessageKind.{MessageKind}
 use Rattle.line.specs.declared.message.MessageKind.TheVariants as kind
 use Rattle.vocabulary.specs.Stations.{opposite}
 use Rattle.vocabulary.specs.declared.number.RightNumber.{RightNumber}
+use Rattle.vocabulary.specs.declared.number.Serial.{Serial}
 use Rattle.vocabulary.specs.declared.station.Station.{Station}
-use Rattle.rules.specs.Calls.{Act, ask, accept, issue, depart, cancel, arrive, set_back, report, release, hear, declare_dead, resume}
-use Rattle.rules.specs.Cabinets.{with_clock}
+use Rattle.cabinets.specs.declared.call.Act.{Act}
+use Rattle.cabinets.specs.declared.call.Act.TheVariants.{Ask as ask, Accept as accept, Issue as issue, Depart as depart, Cancel as cancel, Arrive as arrive, SetBack as set_back, Report as report, Release as release, Hear as hear}
+use Rattle.cabinets.specs.Cabinets.{with_clock}
 use Rattle.rules.specs.Effects.{heard_as, paper_for, view_after}
-use Rattle.rules.specs.Refusals.{NoneHolds}
-use Rattle.rules.specs.Rights.{b_has_right, has_right, is_b, number_carried, parted_to, regained_to}
+use Rattle.cabinets.specs.Refusals.{NoneHolds}
+use Rattle.cabinets.specs.Rights.{b_has_right, has_right, is_b, number_carried, parted_to, regained_to}
 use Rattle.rules.specs.Safety.{In}
-use Rattle.rules.specs.Section.{View}
-use Rattle.rules.specs.Tests.{carries, tests}
-use Rattle.rules.specs.Tray.{but_oldest, but_youngest, carried_by, departed_at, in_hand, is_in_hand, is_out, oldest, same_station, youngest, youngest_departed}
-use Rattle.rules.specs.declared.paper.Paper.{Paper}
-use Rattle.rules.specs.declared.track.Nature.{Nature}
+use Rattle.cabinets.specs.Section.{View}
+use Rattle.cabinets.specs.Tests.{carries, tests}
+use Rattle.cabinets.specs.Tray.{but_oldest, but_youngest, carried_by, departed_at, in_hand, is_in_hand, is_out, oldest, same_station, youngest, youngest_departed}
+use Rattle.cabinets.specs.declared.paper.Paper.{Paper}
+use Rattle.vocabulary.specs.declared.kind.Nature.{Nature}
 use Rattle.rules.proofs.Basics.{Ended, but_youngest_push, departed_push, ended, in_front, in_last, in_split, none, not_other, other_same, same_other, same_refl, same_true, some_not_none, tally, tally_none, tally_push, with_last, youngest_push}
 use Rattle.rules.proofs.Numbers.{Bound, Clear, Has, Held, Numbers, Older, Phase, Told, bound_lacks, clear, fewer, free, free_equal, hand_tells, has_from, is_of, is_sent, ours, theirs, told_as, told_more}
 
@@ -246,14 +248,14 @@ module _ (x : Station) (minute : ℕ) (v : View) (n : Numbers x v) (came : Optio
         phase = k.phase;
         sent = k.sent;
         coming = k.coming;
-        books = record { all = omega (arith, n.books.all, k.of_x); out = omega (arith, n.books.out); heard = n.books.heard };
-        theirs_too = record { all = omega (arith, n.theirs_too.all, k.of_y); out = omega (arith, n.theirs_too.out, k.sent_y); heard = n.theirs_too.heard };
+        books = record { all = omega (arith, n.books.all, k.of_x); out = omega (arith, n.books.out); heard = n.books.heard; few = n.books.few };
+        theirs_too = record { all = omega (arith, n.theirs_too.all, k.of_y); out = omega (arith, n.theirs_too.out, k.sent_y); heard = n.theirs_too.heard; few = n.theirs_too.few };
       }
 
-  step_set_back : (serial : ℕ) → NoneHolds (tests x minute (set_back serial) v) → Numbers x (view_after x minute (set_back serial) came left v)
+  step_set_back : (serial : Serial) → NoneHolds (tests x minute (set_back serial) v) → Numbers x (view_after x minute (set_back serial) came left v)
   unfolding tests
   step_set_back serial p =
-      let q = held_out x serial v n (not-false (is_out x serial (youngest v.tray)) p.1.1.0) in
+      let q = held_out x serial.0 v n (not-false (is_out x serial.0 (youngest v.tray)) p.1.1.0) in
       let h = q.0 in
       let d : is_some h.last.departed ≡ true = q.1 in
       let carry : carried_by (youngest v.tray) ≡ h.last.carried = ap carried_by (last_is h) in
@@ -264,8 +266,8 @@ module _ (x : Station) (minute : ℕ) (v : View) (n : Numbers x v) (came : Optio
         phase = k.phase;
         sent = k.sent;
         coming = k.coming;
-        books = record { all = omega (arith, n.books.all, k.of_x); out = omega (arith, n.books.out); heard = n.books.heard };
-        theirs_too = record { all = omega (arith, n.theirs_too.all, k.of_y); out = omega (arith, n.theirs_too.out, k.sent_y); heard = n.theirs_too.heard };
+        books = record { all = omega (arith, n.books.all, k.of_x); out = omega (arith, n.books.out); heard = n.books.heard; few = n.books.few };
+        theirs_too = record { all = omega (arith, n.theirs_too.all, k.of_y); out = omega (arith, n.theirs_too.out, k.sent_y); heard = n.theirs_too.heard; few = n.theirs_too.few };
       }
 
   step_depart : NoneHolds (tests x minute depart v) → Numbers x (view_after x minute depart came left v)
@@ -298,8 +300,8 @@ module _ (x : Station) (minute : ℕ) (v : View) (n : Numbers x v) (came : Optio
         phase = ours (record { front = h.front; last = new; is = after; owner = h.owner; older = h.older; bound = rw same-r b.0 });
         sent = told_as r' s v.here.taken (youngest_departed minute v.tray) n.sent (omega (arith, b.1)) (λ l. some) (omega arith) (omega arith);
         coming = told_as s r' v.there.taken (youngest_departed minute v.tray) n.coming (omega arith) (λ l. some) (omega (arith, b.1)) (omega arith);
-        books = record { all = omega (arith, n.books.all); out = omega (arith, n.books.out); heard = n.books.heard };
-        theirs_too = record { all = omega (arith, n.theirs_too.all); out = omega (arith, n.theirs_too.out); heard = n.theirs_too.heard };
+        books = record { all = omega (arith, n.books.all); out = omega (arith, n.books.out); heard = n.books.heard; few = n.books.few };
+        theirs_too = record { all = omega (arith, n.theirs_too.all); out = omega (arith, n.theirs_too.out); heard = n.theirs_too.heard; few = n.theirs_too.few };
       }
 
   -- while the right is here and no paper is in hand here, the tray is empty or has this station's departed papers, which carry nothing
@@ -336,14 +338,14 @@ module _ (x : Station) (minute : ℕ) (v : View) (n : Numbers x v) (came : Optio
         phase = ours (record { front = v.tray; last = new; is = refl; owner = refl; older = k.1; bound = issued_bound x v.here.right.0 v.there.right.0 (carries x pass v.here) e (has_from x v.here right) });
         sent = record { lower = n.sent.lower; quiet = λ m i l. omega (arith, n.sent.lower m i); counted = n.sent.counted };
         coming = record { lower = n.coming.lower; quiet = λ m i l. omega (arith, n.coming.lower m i); counted = n.coming.counted };
-        books = record { all = omega (arith, n.books.all); out = omega (arith, n.books.out); heard = n.books.heard };
-        theirs_too = record { all = omega (arith, n.theirs_too.all); out = omega (arith, n.theirs_too.out); heard = n.theirs_too.heard };
+        books = record { all = omega (arith, n.books.all); out = omega (arith, n.books.out); heard = n.books.heard; few = omega (arith, leb-false 9_999 v.here.issued (or_parts _ _ p.1.1.1.1.1.1.1.1.1.0).0) };
+        theirs_too = record { all = omega (arith, n.theirs_too.all); out = omega (arith, n.theirs_too.out); heard = n.theirs_too.heard; few = n.theirs_too.few };
       }
 
-  step_arrive : (serial : ℕ) → NoneHolds (tests x minute (arrive serial) v) → Numbers x (view_after x minute (arrive serial) came left v)
+  step_arrive : (serial : Serial) → NoneHolds (tests x minute (arrive serial) v) → Numbers x (view_after x minute (arrive serial) came left v)
   unfolding tests
   step_arrive serial p =
-      let o = out_is (opposite x) serial (oldest v.tray) (not-false (is_out (opposite x) serial (oldest v.tray)) p.1.0) in
+      let o = out_is (opposite x) serial.0 (oldest v.tray) (not-false (is_out (opposite x) serial.0 (oldest v.tray)) p.1.0) in
       take_in o.0 o.1 o.2 o.3 n.phase
     where
       take_in : (q : Paper) → oldest v.tray ≡ Some q → q.station ≡ opposite x → is_some q.departed ≡ true → Phase x v.here.right.0 v.there.right.0 v.tray → Numbers x (view_after x minute (arrive serial) came left v)
@@ -371,8 +373,8 @@ module _ (x : Station) (minute : ℕ) (v : View) (n : Numbers x v) (came : Optio
             phase = phase';
             sent = told_as (max r c) s (v.here.taken + 1) rest n.sent (omega arith) (λ l. some) (omega arith) (omega arith);
             coming = told_as s (max r c) v.there.taken rest n.coming (omega arith) (λ l. some) (omega arith) (omega arith);
-            books = record { all = omega (arith, n.books.all); out = omega (arith, n.books.out); heard = pick_le (ltb r c) v.here.gone v.here.known v.there.taken (omega (arith, n.books.out)) n.books.heard };
-            theirs_too = record { all = omega (arith, n.theirs_too.all); out = omega (arith, n.theirs_too.out); heard = omega (arith, n.theirs_too.heard) };
+            books = record { all = omega (arith, n.books.all); out = omega (arith, n.books.out); heard = pick_le (ltb r c) v.here.gone v.here.known v.there.taken (omega (arith, n.books.out)) n.books.heard; few = n.books.few };
+            theirs_too = record { all = omega (arith, n.theirs_too.all); out = omega (arith, n.theirs_too.out); heard = omega (arith, n.theirs_too.heard); few = n.theirs_too.few };
           }
 
   -- a message heard that teaches its number
@@ -416,25 +418,15 @@ module _ (x : Station) (minute : ℕ) (v : View) (n : Numbers x v) (came : Optio
     taught_coming = fewer v.inbox left w (told_as v.there.right.0 (max v.here.right.0 m.right.0) v.there.taken v.tray n.coming (omega arith) (λ l. l) (omega arith) (omega arith))
 
     hear_as : (k : MessageKind) → Numbers x (hearing k m)
-    hear_as kind.Ask = record { phase = (learn m i).0; sent = taught_sent; coming = taught_coming; books = record { all = n.books.all; out = n.books.out; heard = (learn m i).1 }; theirs_too = n.theirs_too }
-    hear_as kind.Acceptance = record { phase = (learn m i).0; sent = taught_sent; coming = taught_coming; books = record { all = n.books.all; out = n.books.out; heard = (learn m i).1 }; theirs_too = n.theirs_too }
-    hear_as kind.Report = record { phase = n.phase; sent = n.sent; coming = fewer v.inbox left w n.coming; books = record { all = n.books.all; out = n.books.out; heard = omega (arith, n.books.heard, n.coming.counted m i) }; theirs_too = n.theirs_too }
-    hear_as kind.Release = record { phase = (learn m i).0; sent = taught_sent; coming = taught_coming; books = record { all = n.books.all; out = n.books.out; heard = (learn m i).1 }; theirs_too = n.theirs_too }
+    hear_as kind.Ask = record { phase = (learn m i).0; sent = taught_sent; coming = taught_coming; books = record { all = n.books.all; out = n.books.out; heard = (learn m i).1; few = n.books.few }; theirs_too = n.theirs_too }
+    hear_as kind.Acceptance = record { phase = (learn m i).0; sent = taught_sent; coming = taught_coming; books = record { all = n.books.all; out = n.books.out; heard = (learn m i).1; few = n.books.few }; theirs_too = n.theirs_too }
+    hear_as kind.Report = record { phase = n.phase; sent = n.sent; coming = fewer v.inbox left w n.coming; books = record { all = n.books.all; out = n.books.out; heard = omega (arith, n.books.heard, n.coming.counted m i); few = n.books.few }; theirs_too = n.theirs_too }
+    hear_as kind.Release = record { phase = (learn m i).0; sent = taught_sent; coming = taught_coming; books = record { all = n.books.all; out = n.books.out; heard = (learn m i).1; few = n.books.few }; theirs_too = n.theirs_too }
 
 -- what a hearing is given, as the station sees it
 abbrev pub Hears : Act → Option Message → List Message → View → Type 0
-Hears (ask train) came left v = Unit
-Hears accept came left v = Unit
-Hears (issue train nature pass) came left v = Unit
-Hears depart came left v = Unit
-Hears cancel came left v = Unit
-Hears (arrive serial) came left v = Unit
-Hears (set_back serial) came left v = Unit
-Hears report came left v = Unit
-Hears release came left v = Unit
 Hears hear came left v = MayHear v.inbox came × Within left v.inbox
-Hears declare_dead came left v = Unit
-Hears resume came left v = Unit
+Hears a came left v = Unit
 
 step_hear : (x : Station) (minute : ℕ) (v : View) → Numbers x v → (came : Option Message) (left : List Message) → MayHear v.inbox came → Within left v.inbox → Numbers x (view_after x minute hear came left v)
 step_hear x minute v n None left h w = record { phase = n.phase; sent = n.sent; coming = fewer v.inbox left w n.coming; books = n.books; theirs_too = n.theirs_too }
@@ -452,5 +444,4 @@ step x minute (set_back serial) came left v n p h = step_set_back x minute v n c
 step x minute report came left v n p h = step_report x minute v n came left
 step x minute release came left v n p h = step_release x minute v n came left p
 step x minute hear came left v n p h = step_hear x minute v n came left h.0 h.1
-step x minute declare_dead came left v n p h = record { phase = n.phase; sent = n.sent; coming = n.coming; books = n.books; theirs_too = n.theirs_too }
-step x minute resume came left v n p h = record { phase = n.phase; sent = n.sent; coming = n.coming; books = n.books; theirs_too = n.theirs_too }
+step x minute a came left v n p h = record { phase = n.phase; sent = n.sent; coming = n.coming; books = n.books; theirs_too = n.theirs_too }

@@ -6,19 +6,20 @@ use Rattle.line.specs.declared.message.MessageKind.{MessageKind}
 use Rattle.line.specs.declared.message.MessageKind.TheVariants as kind
 use Rattle.vocabulary.specs.Stations.{opposite}
 use Rattle.vocabulary.specs.declared.station.Station.{Station}
-use Rattle.rules.specs.Calls.{Act, ask, accept, issue, depart, cancel, arrive, set_back, report, release, hear, declare_dead, resume}
-use Rattle.rules.specs.Cabinets.{with_clock}
+use Rattle.cabinets.specs.declared.call.Act.{Act}
+use Rattle.cabinets.specs.declared.call.Act.TheVariants.{Issue as issue, Depart as depart, Cancel as cancel, Arrive as arrive, SetBack as set_back, Hear as hear}
+use Rattle.cabinets.specs.Cabinets.{with_clock}
 use Rattle.rules.specs.Effects.{heard, heard_as, here_after, paper_for, tray_after}
-use Rattle.rules.specs.Refusals.{NoneHolds}
+use Rattle.cabinets.specs.Refusals.{NoneHolds}
 use Rattle.rules.specs.Safety.{In}
-use Rattle.rules.specs.Section.{View}
-use Rattle.rules.specs.Tests.{dead, earlier_than, tests, too_soon, trains_out}
-use Rattle.rules.specs.Track.{interval}
-use Rattle.rules.specs.Tray.{but_oldest, but_youngest, departed_at, in_hand, is_dead}
-use Rattle.rules.specs.declared.cabinet.Cabinet.{Cabinet}
-use Rattle.rules.specs.declared.paper.Paper.{Paper}
-use Rattle.rules.specs.declared.paper.Working.{Working}
-use Rattle.rules.specs.declared.paper.Working.TheVariants.{Telephone, Dead}
+use Rattle.cabinets.specs.Section.{View}
+use Rattle.cabinets.specs.Tests.{dead, earlier_than, tests, too_soon, trains_out}
+use Rattle.cabinets.specs.Track.{interval}
+use Rattle.cabinets.specs.Tray.{but_oldest, but_youngest, departed_at, in_hand, is_dead}
+use Rattle.cabinets.specs.declared.cabinet.Cabinet.{Cabinet}
+use Rattle.cabinets.specs.declared.paper.Paper.{Paper}
+use Rattle.cabinets.specs.declared.paper.Working.{Working}
+use Rattle.cabinets.specs.declared.paper.Working.TheVariants.{Telephone, Dead}
 use Rattle.rules.proofs.Basics.{in_front, in_last, in_split, not_other, same_refl, some_not_none, tally_some}
 use Rattle.rules.proofs.Numbers.{Held, Numbers, is_sent}
 use Rattle.rules.proofs.Steps.{held_in_hand, sent_is}
@@ -66,8 +67,6 @@ in_but_oldest p (q ∷ qs) i = inr i
 -- the other station's papers are those that it had
 pub old_theirs : (x : Station) (minute : ℕ) (a : Act) (v : View) → Numbers x v → NoneHolds (tests x minute a v) → (p : Paper) → In p (tray_after x minute a v) → p.station ≡ opposite x → In p v.tray
 unfolding tests
-old_theirs x minute (ask train) v n e p i o = i
-old_theirs x minute accept v n e p i o = i
 old_theirs x minute (issue train nature pass) v n e p i o = ⊎_elim (λ j. j) (λ f. absurd (not_other x (ap (λ q. q.station) (sym f) ∙ o))) (in_split p (paper_for x train pass v.track v.here) v.tray i)
 old_theirs x minute depart v n e p i o =
     let q = held_in_hand x v n (not-false (in_hand x v.tray) e.1.0) in
@@ -76,11 +75,7 @@ old_theirs x minute depart v n e p i o =
 old_theirs x minute cancel v n e p i o = in_but_youngest p v.tray i
 old_theirs x minute (arrive serial) v n e p i o = in_but_oldest p v.tray i
 old_theirs x minute (set_back serial) v n e p i o = in_but_youngest p v.tray i
-old_theirs x minute report v n e p i o = i
-old_theirs x minute release v n e p i o = i
-old_theirs x minute hear v n e p i o = i
-old_theirs x minute declare_dead v n e p i o = i
-old_theirs x minute resume v n e p i o = i
+old_theirs x minute a v n e p i o = i
 
 -- no train of this station is out, or the interval since its last departure is over
 waited : (x : Station) (minute : ℕ) (v : View) → Numbers x v → (not (dead v.here) && trains_out v.here) ≡ false → (dead v.here && too_soon minute v.track v.here) ≡ false → Times x (interval v.track) v.here.clock v.here.last_departure v.tray → (p : Paper) (t : ℕ) → In p v.tray → p.station ≡ x → p.departed ≡ Some t → t + interval v.track ≤ minute
@@ -173,12 +168,7 @@ own_times x minute depart came v n e t =
 own_times x minute cancel came v n e t = later minute (but_youngest v.tray) (ltb-false minute v.here.clock e.0) (λ p i o. in_but_youngest p v.tray i) t
 own_times x minute (arrive serial) came v n e t = later minute (but_oldest v.tray) (ltb-false minute v.here.clock e.0) (λ p i o. in_but_oldest p v.tray i) t
 own_times x minute (set_back serial) came v n e t = later minute (but_youngest v.tray) (ltb-false minute v.here.clock e.0) (λ p i o. in_but_youngest p v.tray i) t
-own_times x minute (ask train) came v n e t = later minute v.tray (ltb-false minute v.here.clock e.0) (λ p i o. i) t
-own_times x minute accept came v n e t = later minute v.tray (ltb-false minute v.here.clock e.0) (λ p i o. i) t
-own_times x minute report came v n e t = later minute v.tray (ltb-false minute v.here.clock e.0) (λ p i o. i) t
-own_times x minute release came v n e t = later minute v.tray (ltb-false minute v.here.clock e.0) (λ p i o. i) t
 own_times x minute hear came v n e t =
     let k = heard_kept came (with_clock minute v.here) in
     rw (k.clock, k.departure) (later minute v.tray (ltb-false minute v.here.clock e.0) (λ p i o. i) t)
-own_times x minute declare_dead came v n e t = later minute v.tray (ltb-false minute v.here.clock e.0) (λ p i o. i) t
-own_times x minute resume came v n e t = later minute v.tray (ltb-false minute v.here.clock e.0) (λ p i o. i) t
+own_times x minute a came v n e t = later minute v.tray (ltb-false minute v.here.clock e.0) (λ p i o. i) t

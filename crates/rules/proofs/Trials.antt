@@ -5,10 +5,14 @@ use Rattle.line.specs.declared.message.Message.{Message}
 use Rattle.vocabulary.specs.declared.fields.CallFields.{CallFields}
 use Rattle.vocabulary.specs.declared.station.Station.{Station}
 use Rattle.vocabulary.specs.declared.station.Station.TheVariants.{A, B}
-use Rattle.rules.specs.Calls.{Act, Call, act, call_from, drop_line, mend_line, ask, accept, issue, depart, cancel, arrive, set_back, report, release, hear, declare_dead, resume}
+use Rattle.cabinets.specs.Calls.{call_from}
+use Rattle.cabinets.specs.declared.call.Act.{Act}
+use Rattle.cabinets.specs.declared.call.Call.{Call}
+use Rattle.cabinets.specs.declared.call.Act.TheVariants.{Hear as hear}
+use Rattle.cabinets.specs.declared.call.Call.TheVariants.{Act as act, DropLine as drop_line, MendLine as mend_line}
 use Rattle.rules.specs.Runs.{KeepsMeaning, MayChoose, Run, just_made, then_called}
-use Rattle.rules.specs.Section.{Section}
-use Rattle.rules.specs.Tests.{tests}
+use Rattle.cabinets.specs.Section.{Section}
+use Rattle.cabinets.specs.Tests.{tests}
 use Rattle.rules.specs.Trials.{BenchTrials, NotEmpty, Played, first_of, play, telephone_chooses, trial_making, TrialsAreRuns}
 
 first_waits : (ms : List Message) → MayHear ms (first_of ms)
@@ -20,20 +24,10 @@ hearing_keeps A s minute = record { answer = first_waits s.line.for_a; left = λ
 hearing_keeps B s minute = record { answer = first_waits s.line.for_b; left = λ m i. absurd i; rest = refl }
 
 act_keeps : (x : Station) (s : Section) (minute : ℕ) (a : Act) → MayChoose x a (telephone_chooses (Some (act x minute a)) s) s
-act_keeps x s minute (ask train) = tt
-act_keeps x s minute accept = tt
-act_keeps x s minute (issue train nature pass) = tt
-act_keeps x s minute depart = tt
-act_keeps x s minute cancel = tt
-act_keeps x s minute (arrive serial) = tt
-act_keeps x s minute (set_back serial) = tt
-act_keeps x s minute report = tt
-act_keeps x s minute release = tt
 act_keeps x s minute hear = hearing_keeps x s minute
-act_keeps x s minute declare_dead = tt
-act_keeps x s minute resume = tt
+act_keeps x s minute a = tt
 
-telephone_keeps : (o : Option Call) (s : Section) → KeepsMeaning o (telephone_chooses o s) s
+pub telephone_keeps : (o : Option Call) (s : Section) → KeepsMeaning o (telephone_chooses o s) s
 telephone_keeps None s = tt
 telephone_keeps (Some (act x minute a)) s = λ e. act_keeps x s minute a
 telephone_keeps (Some drop_line) s = record { mark_is = refl; left_a = λ m i. absurd i; left_b = λ m i. absurd i; most_is = refl }

@@ -4,8 +4,11 @@ use Rattle.vocabulary.specs.Stations.{opposite}
 use Rattle.vocabulary.specs.declared.fault.CallFault.{CallFault}
 use Rattle.vocabulary.specs.declared.fields.CallFields.{CallFields}
 use Rattle.vocabulary.specs.declared.station.Station.{Station}
-use Rattle.rules.specs.Calls.{Call, act, call_from, drop_line, mend_line, ask, accept, issue, depart, cancel, arrive, set_back, report, release, hear, declare_dead, resume}
-use Rattle.rules.specs.Tray.{same_station}
+use Rattle.cabinets.specs.Calls.{call_from}
+use Rattle.cabinets.specs.declared.call.Call.{Call}
+use Rattle.cabinets.specs.declared.call.Act.TheVariants.{Issue as issue, Depart as depart, Cancel as cancel, Arrive as arrive, SetBack as set_back}
+use Rattle.cabinets.specs.declared.call.Call.TheVariants.{Act as act}
+use Rattle.cabinets.specs.Tray.{same_station}
 
 -- a call that was made, with its answer
 pub record Event : Type 0 where
@@ -39,20 +42,12 @@ pub data Deed : Type 0 where
 
 -- an issue makes the paper of the serial answered; depart, cancel and set back name their station's paper of the serial answered, arrive the other station's of the serial given
 abbrev pub deed_by : Call → ℕ → Deed
-deed_by (act x minute (ask train)) n = no_deed
-deed_by (act x minute accept) n = no_deed
 deed_by (act x minute (issue train nature pass)) n = makes (name x n)
 deed_by (act x minute depart) n = sends (name x n) minute
 deed_by (act x minute cancel) n = cancels (name x n)
-deed_by (act x minute (arrive serial)) n = hands_in (name (opposite x) serial)
+deed_by (act x minute (arrive serial)) n = hands_in (name (opposite x) serial.0)
 deed_by (act x minute (set_back serial)) n = sets_back (name x n)
-deed_by (act x minute report) n = no_deed
-deed_by (act x minute release) n = no_deed
-deed_by (act x minute hear) n = no_deed
-deed_by (act x minute declare_dead) n = no_deed
-deed_by (act x minute resume) n = no_deed
-deed_by drop_line n = no_deed
-deed_by mend_line n = no_deed
+deed_by c n = no_deed
 
 -- a call refused did nothing
 abbrev pub deed_of : Option Call → Result ℕ CallFault → Deed
@@ -70,11 +65,7 @@ deeds h = map deed h
 -- the papers made, in order of issue
 abbrev pub made_after : Deed → List Name → List Name
 made_after (makes k) ks = ks ++ k ∷ []
-made_after (sends k t) ks = ks
-made_after (cancels k) ks = ks
-made_after (sets_back k) ks = ks
-made_after (hands_in k) ks = ks
-made_after no_deed ks = ks
+made_after d ks = ks
 
 abbrev pub made : List Deed → List Name
 made [] = []
@@ -85,12 +76,10 @@ abbrev pub one_more_if : Bool → ℕ → ℕ
 one_more_if b n = cond b (n + 1) n
 
 abbrev pub closed_after : Deed → Name → ℕ → ℕ
-closed_after (makes j) k n = n
-closed_after (sends j t) k n = n
 closed_after (cancels j) k n = one_more_if (same_name j k) n
 closed_after (sets_back j) k n = one_more_if (same_name j k) n
 closed_after (hands_in j) k n = one_more_if (same_name j k) n
-closed_after no_deed k n = n
+closed_after d k n = n
 
 abbrev pub times_closed : Name → List Deed → ℕ
 times_closed k [] = 0
@@ -98,12 +87,8 @@ times_closed k (d ∷ ds) = closed_after d k (times_closed k ds)
 
 -- the minute at which a paper departed, if it has
 abbrev pub departure_after : Deed → Name → Option ℕ → Option ℕ
-departure_after (makes j) k o = o
 departure_after (sends j t) k o = cond (same_name j k) (Some t) o
-departure_after (cancels j) k o = o
-departure_after (sets_back j) k o = o
-departure_after (hands_in j) k o = o
-departure_after no_deed k o = o
+departure_after d k o = o
 
 abbrev pub departure : Name → List Deed → Option ℕ
 departure k [] = None
@@ -131,35 +116,19 @@ of_station x (k ∷ ks) = one_more_if (same_station k.station x) (of_station x k
 -- how many papers of a station were made, cancelled, set back, and handed in
 abbrev pub count_made : Station → Deed → ℕ → ℕ
 count_made x (makes k) n = one_more_if (same_station k.station x) n
-count_made x (sends k t) n = n
-count_made x (cancels k) n = n
-count_made x (sets_back k) n = n
-count_made x (hands_in k) n = n
-count_made x no_deed n = n
+count_made x d n = n
 
 abbrev pub count_cancelled : Station → Deed → ℕ → ℕ
-count_cancelled x (makes k) n = n
-count_cancelled x (sends k t) n = n
 count_cancelled x (cancels k) n = one_more_if (same_station k.station x) n
-count_cancelled x (sets_back k) n = n
-count_cancelled x (hands_in k) n = n
-count_cancelled x no_deed n = n
+count_cancelled x d n = n
 
 abbrev pub count_set_back : Station → Deed → ℕ → ℕ
-count_set_back x (makes k) n = n
-count_set_back x (sends k t) n = n
-count_set_back x (cancels k) n = n
 count_set_back x (sets_back k) n = one_more_if (same_station k.station x) n
-count_set_back x (hands_in k) n = n
-count_set_back x no_deed n = n
+count_set_back x d n = n
 
 abbrev pub count_handed_in : Station → Deed → ℕ → ℕ
-count_handed_in x (makes k) n = n
-count_handed_in x (sends k t) n = n
-count_handed_in x (cancels k) n = n
-count_handed_in x (sets_back k) n = n
 count_handed_in x (hands_in k) n = one_more_if (same_station k.station x) n
-count_handed_in x no_deed n = n
+count_handed_in x d n = n
 
 -- a count over all that was done
 abbrev pub counted : (Deed → ℕ → ℕ) → List Deed → ℕ

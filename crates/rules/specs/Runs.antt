@@ -3,26 +3,21 @@ use Rattle.std.specs.Prelude.{◌≡◌, true, false, [], ◌∷◌, Some, None,
 use Rattle.line.specs.Meaning.{Heard, Marked, with_waits}
 use Rattle.vocabulary.specs.declared.fields.CallFields.{CallFields}
 use Rattle.vocabulary.specs.declared.station.Station.{Station}
-use Rattle.rules.specs.Calls.{Act, Call, act, call_from, drop_line, mend_line, ask, accept, issue, depart, cancel, arrive, set_back, report, release, hear, declare_dead, resume}
+use Rattle.cabinets.specs.Calls.{call_from}
+use Rattle.cabinets.specs.declared.call.Act.{Act}
+use Rattle.cabinets.specs.declared.call.Call.{Call}
+use Rattle.cabinets.specs.declared.call.Act.TheVariants.{Hear as hear}
+use Rattle.cabinets.specs.declared.call.Call.TheVariants.{Act as act, DropLine as drop_line, MendLine as mend_line}
 use Rattle.rules.specs.History.{History}
-use Rattle.rules.specs.Making.{Making, making}
-use Rattle.rules.specs.Outcome.{Choice, call_refusal, left, marked, outcome}
-use Rattle.rules.specs.Section.{Section}
+use Rattle.cabinets.specs.Making.{Making, making}
+use Rattle.cabinets.specs.Outcome.{Choice, call_refusal, left, marked}
+use Rattle.rules.specs.Outcome.{outcome}
+use Rattle.cabinets.specs.Section.{Section}
 
 -- what a line may choose when a station acts: only a hearing asks it for anything
 abbrev pub MayChoose : Station → Act → Choice → Section → Type 0
-MayChoose x (ask train) ch s = Unit
-MayChoose x accept ch s = Unit
-MayChoose x (issue train nature pass) ch s = Unit
-MayChoose x depart ch s = Unit
-MayChoose x cancel ch s = Unit
-MayChoose x (arrive serial) ch s = Unit
-MayChoose x (set_back serial) ch s = Unit
-MayChoose x report ch s = Unit
-MayChoose x release ch s = Unit
 MayChoose x hear ch s = Heard x s.line ch.came (with_waits x (left x ch) s.line)
-MayChoose x declare_dead ch s = Unit
-MayChoose x resume ch s = Unit
+MayChoose x a ch s = Unit
 
 -- what a line may choose at a call that is carried out
 abbrev pub KeepsMeaning : Option Call → Choice → Section → Type 0

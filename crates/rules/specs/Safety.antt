@@ -4,11 +4,11 @@ use Rattle.vocabulary.specs.Stations.{opposite}
 use Rattle.vocabulary.specs.declared.station.Station.{Station}
 use Rattle.vocabulary.specs.declared.station.Station.TheVariants.{A, B}
 use Rattle.rules.specs.History.{Deed, History, Name, count_cancelled, count_handed_in, count_made, count_set_back, counted, deeds, departure, live, made, name, of_station, times, times_closed}
-use Rattle.rules.specs.Rights.{has_right}
+use Rattle.cabinets.specs.Rights.{has_right}
 use Rattle.rules.specs.Runs.{Run}
-use Rattle.rules.specs.Section.{Section, cabinet}
-use Rattle.rules.specs.Track.{interval}
-use Rattle.rules.specs.declared.paper.Paper.{Paper}
+use Rattle.cabinets.specs.Section.{Section, cabinet}
+use Rattle.cabinets.specs.Track.{interval}
+use Rattle.cabinets.specs.declared.paper.Paper.{Paper}
 
 -- something is among a list's items
 abbrev pub In : {X : Type 0} → X → List X → Type 0

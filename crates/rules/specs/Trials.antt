@@ -7,17 +7,20 @@ use Rattle.vocabulary.specs.declared.fault.CallFault.{CallFault}
 use Rattle.vocabulary.specs.declared.fault.Fault.TheVariants as of
 use Rattle.vocabulary.specs.declared.fields.CallFields.{CallFields}
 use Rattle.vocabulary.specs.declared.station.Station.TheVariants.{A, B}
-use Rattle.rules.specs.Cabinets.{new_cabinet, with_last_record}
-use Rattle.rules.specs.Calls.{Call, act, call_from, drop_line, mend_line}
+use Rattle.cabinets.specs.Cabinets.{new_cabinet, with_last_record}
+use Rattle.cabinets.specs.Calls.{call_from}
+use Rattle.cabinets.specs.declared.call.Call.{Call}
+use Rattle.cabinets.specs.declared.call.Call.TheVariants.{Act as act, DropLine as drop_line, MendLine as mend_line}
 use Rattle.rules.specs.History.{History, deeds, departure, live, name}
-use Rattle.rules.specs.Making.{Making, new_section}
-use Rattle.rules.specs.Outcome.{Choice, outcome}
-use Rattle.rules.specs.Records.{next_record}
-use Rattle.rules.specs.Rights.{has_right}
+use Rattle.cabinets.specs.Making.{Making, new_section}
+use Rattle.cabinets.specs.Outcome.{Choice}
+use Rattle.rules.specs.Outcome.{outcome}
+use Rattle.cabinets.specs.Records.{next_record}
+use Rattle.cabinets.specs.Rights.{has_right}
 use Rattle.rules.specs.Runs.{Run}
-use Rattle.rules.specs.Section.{Section}
-use Rattle.rules.specs.Track.{interval}
-use Rattle.rules.specs.declared.track.TrackKind.TheVariants.{Single}
+use Rattle.cabinets.specs.Section.{Section}
+use Rattle.cabinets.specs.Track.{interval}
+use Rattle.vocabulary.specs.declared.kind.TrackKind.TheVariants.{Single}
 
 -- a making for trials: a single track of 12 minutes, a tray of 4, and the telephone, which is up and empty
 abbrev pub trial_making : Making

@@ -1,4 +1,4 @@
-// The theorems, each demanded by a contract.
+// The theorems, each demanded by a contract of its own, as each is another theorem.
 ghost use Rattle.rules.specs.Laws.{RulesHold};
 ghost use Rattle.rules.specs.Safety.{EveryRunOneRight, EveryRunSafe};
 ghost use Rattle.rules.specs.Trials.{BenchTrials, NotEmpty};

@@ -1,7 +1,7 @@
-// The rules of working one section: what a cabinet remembers, the paper, the track, and the theorems about every run.
+// The rules of working one section over the cabinets' own types, where no count ever stays at an end, and the theorems
+// about every run.
 #![tactic(auto)]
 
-pub mod cabinet;
 pub mod laws;
-pub mod paper;
-pub mod track;
+
+pub use cabinets::{cabinet, paper, track};

@@ -1,7 +1,7 @@
 -- An act over any line: from what the line, the desk and the tray did to what the rules say.
 use Rattle.std.proofs.Common.{◌≡◌, ℕ, min, Bool, true, false, not, ◌&&◌, ltb, [], ◌∷◌, ◌++◌, is_some, Some, None, Ok, Err, Option, Result, sym, refl, ap, ◌∙◌, subst, ⊎_elim, arith}
 use Rattle.std.proofs.lemmas.Bool.{and_left, and_parts, cases_Bool, true≢false}
-use Rattle.line.specs.Laws.{Laws}
+use Rattle.line.specs.declared.line.Line.{Ghosts as Line}
 use Rattle.line.specs.Meaning.{Meaning, can_post, waits, with_waits}
 use Rattle.line.specs.declared.message.Message.{Message}
 use Rattle.queue.specs.Model.{items, room_of}
@@ -36,23 +36,23 @@ left_chosen : (x : Station) (came : Option Message) (l : Meaning) → left x (ch
 left_chosen A came l = refl
 left_chosen B came l = refl
 
-module _ {L : Type 0} (m : L → Meaning) (hears : L → Station → Option Message → L → Type 0) (drops mends : L → L → Type 0) (laws : Laws m hears drops mends) where
+module _ {L : Type 0} (line : Line L) where
   -- the same section, as the rules see it
-  state_same : (s s₁ : Section L) (q : Queue Paper) → OnlyLine s s₁ → s₁.line.now ≡ s.line.now → state m s₁ q ≡ state m s q
-  state_same s s₁ q o e = λ i. record { track = o.same_track i; at_a = o.same_a i; at_b = o.same_b i; tray = items q; size = min (o.same_size i) (room_of q); line = m (e i) }
+  state_same : (s s₁ : Section L) (q : Queue Paper) → OnlyLine s s₁ → s₁.line.now ≡ s.line.now → state line s₁ q ≡ state line s q
+  state_same s s₁ q o e = λ i. record { track = o.same_track i; at_a = o.same_a i; at_b = o.same_b i; tray = items q; size = min (o.same_size i) (room_of q); line = line.meaning (e i) }
 
   -- a section over a line that was listened to, as the code tells it: its cabinet, its desk, and whether the line was tried
-  module _ (s s₁ : Section L) (q : Queue Paper) (x : Station) (minute : ℕ) (a : Act) (came : Option Message) (o : OnlyLine s s₁) (k : Cabinet) (ek : k ≡ cabinet x (state m s q)) (d₀ : Desk) (ed : d₀ ≡ desk x minute (seen x (state m s q)) s.size None) (t : Bool) (et : t ≡ (is_hear a && not (ltb minute k.clock))) (h : Listened hears t x came s.line.now s₁.line.now) where
+  module _ (s s₁ : Section L) (q : Queue Paper) (x : Station) (minute : ℕ) (a : Act) (came : Option Message) (o : OnlyLine s s₁) (k : Cabinet) (ek : k ≡ cabinet x (state line s q)) (d₀ : Desk) (ed : d₀ ≡ desk x minute (seen x (state line s q)) s.size None) (t : Bool) (et : t ≡ (is_hear a && not (ltb minute k.clock))) (h : Listened line t x came s.line.now s₁.line.now) where
     abbrev v : View
-    v = seen x (state m s q)
+    v = seen x (state line s q)
 
     abbrev after : Cabinet
-    after = here_after x minute a came (items q) (cabinet x (state m s q))
+    after = here_after x minute a came (items q) (cabinet x (state line s q))
 
     abbrev said : Option Message
-    said = posts minute a (cabinet x (state m s q)) after
+    said = posts minute a (cabinet x (state line s q)) after
 
-    tried_is : t ≡ (is_hear a && not (ltb minute (cabinet x (state m s q)).clock))
+    tried_is : t ≡ (is_hear a && not (ltb minute (cabinet x (state line s q)).clock))
     tried_is = et ∙ ap (λ c. is_hear a && not (ltb minute c.clock)) ek
 
     unheard : t ≡ false → (came ≡ None) × (s₁.line.now ≡ s.line.now)
@@ -61,7 +61,7 @@ module _ {L : Type 0} (m : L → Meaning) (hears : L → Station → Option Mess
     unheard_act : is_hear a ≡ false → t ≡ false
     unheard_act e = tried_is ∙ and_left (is_hear a) _ e
 
-    same_work : working (with_came came d₀) a (min d₀.size (room_of q)) k (items q) ≡ working (desk x minute v s.size came) a (min s.size (room_of q)) (cabinet x (state m s q)) (items q)
+    same_work : working (with_came came d₀) a (min d₀.size (room_of q)) k (items q) ≡ working (desk x minute v s.size came) a (min s.size (room_of q)) (cabinet x (state line s q)) (items q)
     same_work = λ i. working (with_came came (ed i)) a (min (ed i).size (room_of q)) (ek i) (items q)
 
     some_none : (g : CallFault) → Some g ≡ None → ⊥
@@ -74,93 +74,93 @@ module _ {L : Type 0} (m : L → Meaning) (hears : L → Station → Option Mess
     did d c' q' w = was_done (refusal (own x minute a v)) _ d _ _ c' _ _ (items q') (w ∙ same_work ∙ work_is x minute a came v s.size)
 
     -- refused at the desk: the line was not tried
-    pub refused_act : (f : CallFault) (c' : Cabinet) (q' : Queue Paper) → Work (Err f) c' q' → q' ≡ q → record { answer = Err f; after = state m s₁ q' } ≡ outcome_of (Some (call.Act x minute a)) (chosen came (m s₁.line.now)) (state m s q)
+    pub refused_act : (f : CallFault) (c' : Cabinet) (q' : Queue Paper) → Work (Err f) c' q' → q' ≡ q → record { answer = Err f; after = state line s₁ q' } ≡ outcome_of (Some (call.Act x minute a)) (chosen came (line.meaning s₁.line.now)) (state line s q)
     refused_act f c' q' w e =
         let r = was_refused (refusal (own x minute a v)) _ f _ _ c' _ _ (items q') (w ∙ same_work ∙ work_is x minute a came v s.size) in
         let u : t ≡ false = ⊎_elim (λ y. absurd (some_none f (sym r.0 ∙ hearing_done x minute a v (sym tried_is ∙ y)))) (λ n. n) (cases_Bool t) in
-        let n : state m s₁ q' ≡ state m s q = ap (state m s₁) e ∙ state_same s s₁ q o (unheard u).1 in
-        ap (λ z. record { answer = Err f; after = z }) n ∙ act_refused x minute a came (state m s q) f (chosen came (m s₁.line.now)) r.0
+        let n : state line s₁ q' ≡ state line s q = ap (state line s₁) e ∙ state_same s s₁ q o (unheard u).1 in
+        ap (λ z. record { answer = Err f; after = z }) n ∙ act_refused x minute a came (state line s q) f (chosen came (line.meaning s₁.line.now)) r.0
 
     module _ (d : Done) (c' : Cabinet) (q' : Queue Paper) (w : Work (Ok d) c' q') (s₂ : Section L) where
       message_is : d.message ≡ said
       message_is = ap (λ y. y.message) (did d c' q' w).1
 
       -- refused by the line
-      pub unposted_act : false ≡ takes (opposite x) d.message (m s₁.line.now) → state m s₂ q' ≡ state m s₁ q' → q' ≡ q → record { answer = Err fault.Line; after = state m s₂ q' } ≡ outcome_of (Some (call.Act x minute a)) (chosen came (m s₂.line.now)) (state m s q)
+      pub unposted_act : false ≡ takes (opposite x) d.message (line.meaning s₁.line.now) → state line s₂ q' ≡ state line s₁ q' → q' ≡ q → record { answer = Err fault.Line; after = state line s₂ q' } ≡ outcome_of (Some (call.Act x minute a)) (chosen came (line.meaning s₂.line.now)) (state line s q)
       unposted_act down e eq = go d.message refl down
         where
-          go : (y : Option Message) → d.message ≡ y → false ≡ takes (opposite x) y (m s₁.line.now) → record { answer = Err fault.Line; after = state m s₂ q' } ≡ outcome_of (Some (call.Act x minute a)) (chosen came (m s₂.line.now)) (state m s q)
+          go : (y : Option Message) → d.message ≡ y → false ≡ takes (opposite x) y (line.meaning s₁.line.now) → record { answer = Err fault.Line; after = state line s₂ q' } ≡ outcome_of (Some (call.Act x minute a)) (chosen came (line.meaning s₂.line.now)) (state line s q)
           go None y n = let z : ◌≡◌ {A = ℕ} 0 1 = cc in absurd (omega arith)
           go (Some y) p n =
               let i : Some y ≡ said = sym p ∙ message_is in
               let u = unheard (unheard_act (says_unheard x minute a came v y i)) in
-              let l : can_post (opposite x) (m s.line.now) ≡ false = ap (λ z. can_post (opposite x) (m z)) (sym u.1) ∙ sym n in
-              let same : state m s₂ q' ≡ state m s q = e ∙ ap (state m s₁) eq ∙ state_same s s₁ q o u.1 in
-              ap (λ z. record { answer = Err fault.Line; after = z }) same ∙ act_not_posted x minute a came (state m s q) y (chosen came (m s₂.line.now)) (did d c' q' w).0 i l
+              let l : can_post (opposite x) (line.meaning s.line.now) ≡ false = ap (λ z. can_post (opposite x) (line.meaning z)) (sym u.1) ∙ sym n in
+              let same : state line s₂ q' ≡ state line s q = e ∙ ap (state line s₁) eq ∙ state_same s s₁ q o u.1 in
+              ap (λ z. record { answer = Err fault.Line; after = z }) same ∙ act_not_posted x minute a came (state line s q) y (chosen came (line.meaning s₂.line.now)) (did d c' q' w).0 i l
 
       -- carried out
-      module _ (room : room_of q' ≡ room_of q) (ok : true ≡ takes (opposite x) d.message (m s₁.line.now)) (e : state m s₂ q' ≡ settled x c' (items q') (with_message (opposite x) d.message (m s₁.line.now)) (state m s₁ q')) where
+      module _ (room : room_of q' ≡ room_of q) (ok : true ≡ takes (opposite x) d.message (line.meaning s₁.line.now)) (e : state line s₂ q' ≡ settled x c' (items q') (with_message (opposite x) d.message (line.meaning s₁.line.now)) (state line s₁ q')) where
         -- the line afterwards
-        line_is : m s₂.line.now ≡ with_message (opposite x) d.message (m s₁.line.now)
+        line_is : line.meaning s₂.line.now ≡ with_message (opposite x) d.message (line.meaning s₁.line.now)
         line_is = ap (λ y. y.line) e ∙ settled_line x
           where
-            settled_line : (y : Station) → (settled y c' (items q') (with_message (opposite x) d.message (m s₁.line.now)) (state m s₁ q')).line ≡ with_message (opposite x) d.message (m s₁.line.now)
+            settled_line : (y : Station) → (settled y c' (items q') (with_message (opposite x) d.message (line.meaning s₁.line.now)) (state line s₁ q')).line ≡ with_message (opposite x) d.message (line.meaning s₁.line.now)
             settled_line A = refl
             settled_line B = refl
 
         -- the rest, as it was before
-        settled_same : (y : Station) (l : Meaning) → settled y c' (items q') l (state m s₁ q') ≡ settled y after (tray_after x minute a v) l (state m s q)
+        settled_same : (y : Station) (l : Meaning) → settled y c' (items q') l (state line s₁ q') ≡ settled y after (tray_after x minute a v) l (state line s q)
         settled_same A l = λ i. record { track = o.same_track i; at_a = (did d c' q' w).2 i; at_b = o.same_b i; tray = (did d c' q' w).3 i; size = min (o.same_size i) (room i); line = l }
         settled_same B l = λ i. record { track = o.same_track i; at_a = o.same_a i; at_b = (did d c' q' w).2 i; tray = (did d c' q' w).3 i; size = min (o.same_size i) (room i); line = l }
 
         abbrev l₂ : Meaning
-        l₂ = m s₂.line.now
+        l₂ = line.meaning s₂.line.now
 
-        finish : refusal (tests x minute a v) ≡ None → section_after (call.Act x minute a) (chosen came l₂) (state m s q) ≡ settled x after (tray_after x minute a v) l₂ (state m s q) → record { answer = Ok d.answer; after = state m s₂ q' } ≡ outcome_of (Some (call.Act x minute a)) (chosen came l₂) (state m s q)
+        finish : refusal (tests x minute a v) ≡ None → section_after (call.Act x minute a) (chosen came l₂) (state line s q) ≡ settled x after (tray_after x minute a v) l₂ (state line s q) → record { answer = Ok d.answer; after = state line s₂ q' } ≡ outcome_of (Some (call.Act x minute a)) (chosen came l₂) (state line s q)
         finish none sa =
-            let st : state m s₂ q' ≡ section_after (call.Act x minute a) (chosen came l₂) (state m s q) = e ∙ ap (λ l. settled x c' (items q') l (state m s₁ q')) (sym line_is) ∙ settled_same x l₂ ∙ sym sa in
+            let st : state line s₂ q' ≡ section_after (call.Act x minute a) (chosen came l₂) (state line s q) = e ∙ ap (λ l. settled x c' (items q') l (state line s₁ q')) (sym line_is) ∙ settled_same x l₂ ∙ sym sa in
             let an : d.answer ≡ answer_of minute a came v = ap (λ y. y.answer) (did d c' q' w).1 in
-            (λ i. record { answer = Ok (an i); after = st i }) ∙ act_done x minute a came (state m s q) (chosen came l₂) none
+            (λ i. record { answer = Ok (an i); after = st i }) ∙ act_done x minute a came (state line s q) (chosen came l₂) none
 
         -- nothing was said: the line is as the hearing left it, or as it was
-        quiet_line : d.message ≡ None → l₂ ≡ with_waits x (inbox_after a (waits x l₂) (waits x (m s.line.now))) (m s.line.now)
+        quiet_line : d.message ≡ None → l₂ ≡ with_waits x (inbox_after a (waits x l₂) (waits x (line.meaning s.line.now))) (line.meaning s.line.now)
         quiet_line n = ⊎_elim heard_it not_heard (cases_Bool t)
           where
-            same : l₂ ≡ m s₁.line.now
-            same = line_is ∙ ap (λ y. with_message (opposite x) y (m s₁.line.now)) n
+            same : l₂ ≡ line.meaning s₁.line.now
+            same = line_is ∙ ap (λ y. with_message (opposite x) y (line.meaning s₁.line.now)) n
 
-            heard_it : t ≡ true → l₂ ≡ with_waits x (inbox_after a (waits x l₂) (waits x (m s.line.now))) (m s.line.now)
+            heard_it : t ≡ true → l₂ ≡ with_waits x (inbox_after a (waits x l₂) (waits x (line.meaning s.line.now))) (line.meaning s.line.now)
             heard_it y =
-                let hh : hears s.line.now x came s₁.line.now = rw y at h in
+                let hh : line.hears s.line.now x came s₁.line.now = rw y at h in
                 let ha : is_hear a ≡ true = (and_parts (is_hear a) _ (sym tried_is ∙ y)).0 in
-                same ∙ (laws.heard s.line.now x came s₁.line.now hh).rest ∙ ap (λ l. with_waits x l (m s.line.now)) (sym (inbox_left a (waits x l₂) (waits x (m s.line.now)) ha ∙ ap (waits x) same))
+                same ∙ (line.laws.heard s.line.now x came s₁.line.now hh).rest ∙ ap (λ l. with_waits x l (line.meaning s.line.now)) (sym (inbox_left a (waits x l₂) (waits x (line.meaning s.line.now)) ha ∙ ap (waits x) same))
 
-            not_heard : t ≡ false → l₂ ≡ with_waits x (inbox_after a (waits x l₂) (waits x (m s.line.now))) (m s.line.now)
+            not_heard : t ≡ false → l₂ ≡ with_waits x (inbox_after a (waits x l₂) (waits x (line.meaning s.line.now))) (line.meaning s.line.now)
             not_heard y =
                 let plain : is_hear a ≡ false = ⊎_elim (λ z. absurd (true≢false (sym (done_on_time x minute a v z (did d c' q' w).0) ∙ sym tried_is ∙ y))) (λ z. z) (cases_Bool (is_hear a)) in
-                same ∙ ap m (unheard y).1 ∙ with_same x (m s.line.now) ∙ ap (λ l. with_waits x l (m s.line.now)) (sym (inbox_stays a (waits x l₂) (waits x (m s.line.now)) plain))
+                same ∙ ap line.meaning (unheard y).1 ∙ with_same x (line.meaning s.line.now) ∙ ap (λ l. with_waits x l (line.meaning s.line.now)) (sym (inbox_stays a (waits x l₂) (waits x (line.meaning s.line.now)) plain))
 
-        pub done_act : record { answer = Ok d.answer; after = state m s₂ q' } ≡ outcome_of (Some (call.Act x minute a)) (chosen came l₂) (state m s q)
+        pub done_act : record { answer = Ok d.answer; after = state line s₂ q' } ≡ outcome_of (Some (call.Act x minute a)) (chosen came l₂) (state line s q)
         done_act = go d.message refl
           where
-            go : (y : Option Message) → d.message ≡ y → record { answer = Ok d.answer; after = state m s₂ q' } ≡ outcome_of (Some (call.Act x minute a)) (chosen came l₂) (state m s q)
+            go : (y : Option Message) → d.message ≡ y → record { answer = Ok d.answer; after = state line s₂ q' } ≡ outcome_of (Some (call.Act x minute a)) (chosen came l₂) (state line s q)
             go None p =
                 let i : None ≡ said = sym p ∙ message_is in
-                finish (passed_quiet x minute a came (state m s q) (did d c' q' w).0 i) (quiet_is x minute a (chosen came l₂) (state m s q) l₂ i (quiet_line p ∙ ap (λ l. with_waits x (inbox_after a l (waits x (m s.line.now))) (m s.line.now)) (sym (left_chosen x came l₂))))
+                finish (passed_quiet x minute a came (state line s q) (did d c' q' w).0 i) (quiet_is x minute a (chosen came l₂) (state line s q) l₂ i (quiet_line p ∙ ap (λ l. with_waits x (inbox_after a l (waits x (line.meaning s.line.now))) (line.meaning s.line.now)) (sym (left_chosen x came l₂))))
             go (Some y) p =
                 let i : Some y ≡ said = sym p ∙ message_is in
                 let u = unheard (unheard_act (says_unheard x minute a came v y i)) in
-                let c : can_post (opposite x) (m s.line.now) ≡ true = ap (λ z. can_post (opposite x) (m z)) (sym u.1) ∙ sym (ok ∙ ap (λ z. takes (opposite x) z (m s₁.line.now)) p) in
-                let l : l₂ ≡ with_waits (opposite x) (waits (opposite x) (m s.line.now) ++ y ∷ []) (m s.line.now) = line_is ∙ ap (λ z. with_message (opposite x) z (m s₁.line.now)) p ∙ ap (λ z. with_message (opposite x) (Some y) (m z)) u.1 in
-                finish (passed_post x minute a came (state m s q) y (did d c' q' w).0 i c) (posted_is x minute a y (chosen came l₂) (state m s q) l₂ i l)
+                let c : can_post (opposite x) (line.meaning s.line.now) ≡ true = ap (λ z. can_post (opposite x) (line.meaning z)) (sym u.1) ∙ sym (ok ∙ ap (λ z. takes (opposite x) z (line.meaning s₁.line.now)) p) in
+                let l : l₂ ≡ with_waits (opposite x) (waits (opposite x) (line.meaning s.line.now) ++ y ∷ []) (line.meaning s.line.now) = line_is ∙ ap (λ z. with_message (opposite x) z (line.meaning s₁.line.now)) p ∙ ap (λ z. with_message (opposite x) (Some y) (line.meaning z)) u.1 in
+                finish (passed_post x minute a came (state line s q) y (did d c' q' w).0 i c) (posted_is x minute a y (chosen came l₂) (state line s q) l₂ i l)
 
         -- a hearing carried out tried the line once
-        pub heard_once : (d.message ≡ None → s₂.line.now ≡ s₁.line.now) → (is_hear a && true) ≡ true → hears s.line.now x came s₂.line.now
+        pub heard_once : (d.message ≡ None → s₂.line.now ≡ s₁.line.now) → (is_hear a && true) ≡ true → line.hears s.line.now x came s₂.line.now
         heard_once quiet y =
             let ha : is_hear a ≡ true = (and_parts (is_hear a) true y).0 in
             let ti : t ≡ true = tried_is ∙ done_on_time x minute a v ha (did d c' q' w).0 in
-            let hh : hears s.line.now x came s₁.line.now = rw ti at h in
-            subst (λ l. hears s.line.now x came l) (sym (quiet (message_is ∙ quiet_hearing x minute a came v ha))) hh
+            let hh : line.hears s.line.now x came s₁.line.now = rw ti at h in
+            subst (λ l. line.hears s.line.now x came l) (sym (quiet (message_is ∙ quiet_hearing x minute a came v ha))) hh
 
 -- only a message can be refused
 pub not_taken : (to : Station) (y : Option Message) (l : Meaning) → false ≡ takes to y l → is_some y ≡ true

@@ -1,5 +1,5 @@
 -- That a station's work, and what it then posts or hears, is what the rules say of its act.
-use Rattle.std.proofs.Common.{◌≡◌, ℕ, Bool, true, false, cond, not, ◌&&◌, ltb, List, [], ◌∷◌, ◌++◌, IfOk, Some, None, Ok, Err, Option, Result, sym, refl, ap, ◌∙◌, arith}
+use Rattle.std.proofs.Common.{◌≡◌, ℕ, Bool, true, false, cond, not, ◌&&◌, ltb, List, [], ◌∷◌, ◌++◌, Some, None, Ok, Err, Option, sym, refl, ap, ◌∙◌, arith}
 use Rattle.std.proofs.lemmas.Bool.{not-true}
 use Rattle.line.specs.Meaning.{Meaning, can_post, waits, with_waits}
 use Rattle.line.specs.declared.message.Message.{Message}
@@ -10,7 +10,7 @@ use Rattle.vocabulary.specs.declared.number.Serial.{Serial}
 use Rattle.vocabulary.specs.declared.station.Station.{Station}
 use Rattle.vocabulary.specs.declared.station.Station.TheVariants.{A, B}
 use Rattle.cabinets.specs.Acts.{done}
-use Rattle.cabinets.specs.Effects.{answer_of, here_after, inbox_after, posts, tray_after}
+use Rattle.cabinets.specs.Effects.{answer_of, came_kind, came_number, here_after, inbox_after, posts, tray_after}
 use Rattle.cabinets.specs.Outcome.{Choice, judged, left, outcome_of, section_after}
 use Rattle.cabinets.specs.Refusals.{Test, refusal, refuse}
 use Rattle.cabinets.specs.Section.{Section as Situation, View, seen}
@@ -23,13 +23,8 @@ use Rattle.cabinets.specs.declared.call.Call.TheVariants as call
 use Rattle.cabinets.specs.declared.paper.Paper.{Paper}
 use Rattle.section.specs.Called.{is_hear}
 use Rattle.section.specs.State.{settled}
-use Rattle.section.specs.Work.{Worked, changing, desk, handling, putting, saying, taking, working}
+use Rattle.section.specs.Work.{Worked, changing, desk, handling, putting, saying, taking, telling, working}
 use Rattle.section.specs.declared.desk.Done.{Done}
-
--- what holds of every value holds of an answer
-pub always : {X E : Type 0} (r : Result X E) (P : X → Type 0) → ((x : X) → P x) → IfOk r P
-always (Ok x) P h = h x
-always (Err e) P h = tt
 
 -- an act's tests but for that of the line
 abbrev pub own : Station → ℕ → Act → View → List (Test CallFault)
@@ -93,6 +88,11 @@ take_in : (o : Option CallFault) (n : ℕ) (c c₀ : Cabinet) (ps qs : List Pape
 take_in None n c c₀ ps qs = refl
 take_in (Some e) n c c₀ ps qs = refl
 
+tell : (o : Option CallFault) (came : Option Message) (c c₀ : Cabinet) (ps : List Paper) → telling (done o (came_kind came) c c₀).0 (done o (came_kind came) c c₀).1 ps ≡ told o (record { answer = came_number came; message = None }) c ps c₀ ps
+tell None None c c₀ ps = refl
+tell None (Some m) c c₀ ps = refl
+tell (Some e) came c c₀ ps = refl
+
 change : (o : Option CallFault) (c c₀ : Cabinet) (ps : List Paper) → changing (done {R = Unit {0}} o tt c c₀).0 (done {R = Unit {0}} o tt c c₀).1 ps ≡ told o (record { answer = 0; message = None }) c ps c₀ ps
 change None c c₀ ps = refl
 change (Some e) c c₀ ps = refl
@@ -108,7 +108,7 @@ work_is x minute (act.Arrive serial) came v size = take_in (refusal (own x minut
 work_is x minute (act.SetBack serial) came v size = handle (refusal (own x minute (act.SetBack serial) v)) _ _ v.here v.tray _
 work_is x minute act.Report came v size = say (refusal (own x minute act.Report v)) (λ m. m.«record».0) _ _ v.here v.tray
 work_is x minute act.Release came v size = say (refusal (own x minute act.Release v)) (λ m. m.«record».0) _ _ v.here v.tray
-work_is x minute act.Hear came v size = take_in (refusal (own x minute act.Hear v)) _ _ v.here v.tray _
+work_is x minute act.Hear came v size = tell (refusal (own x minute act.Hear v)) came _ v.here v.tray
 work_is x minute act.DeclareDead came v size = change (refusal (own x minute act.DeclareDead v)) _ v.here v.tray
 work_is x minute act.Resume came v size = change (refusal (own x minute act.Resume v)) _ v.here v.tray
 

@@ -1,6 +1,7 @@
 -- What comes of a call over any line.
 use Rattle.std.specs.Prelude.{◌≡◌, ℕ, Bool, true, false, cond, ◌&&◌, [], ◌∷◌, ◌++◌, is_ok, Some, None, Ok, Err, Option, Result}
 use Rattle.line.specs.Meaning.{Meaning, can_post, waits, with_waits}
+use Rattle.line.specs.declared.line.Line.{Ghosts as Line}
 use Rattle.line.specs.declared.message.Message.{Message}
 use Rattle.queue.specs.declared.Queue.{Queue}
 use Rattle.vocabulary.specs.declared.fault.CallFault.{CallFault}
@@ -44,8 +45,8 @@ is_hear act.DeclareDead = false
 is_hear act.Resume = false
 
 -- a line was tried once, and something came or not; or it was not tried
-abbrev pub Listened : {L : Type 0} → (L → Station → Option Message → L → Type 0) → Bool → Station → Option Message → L → L → Type 0
-Listened hears tried x came l l' = cond tried (hears l x came l') ((came ≡ None) × (l' ≡ l))
+abbrev pub Listened : {L : Type 0} → Line L → Bool → Station → Option Message → L → L → Type 0
+Listened line tried x came l l' = cond tried (line.hears l x came l') ((came ≡ None) × (l' ≡ l))
 
 -- whether a line takes what is said to a station, if anything is
 abbrev pub takes : Station → Option Message → Meaning → Bool
@@ -58,20 +59,24 @@ with_message to None l = l
 with_message to (Some m) l = with_waits to (waits to l ++ m ∷ []) l
 
 -- what a line did in a call: a hearing that is carried out tries it just once, a drop and a mend are its own
-abbrev pub LineDid : {L : Type 0} → (L → Station → Option Message → L → Type 0) → (L → L → Type 0) → (L → L → Type 0) → Option Call → Bool → Option Message → L → L → Type 0
-LineDid hears drops mends None done came l l' = l' ≡ l
-LineDid hears drops mends (Some (call.Act x minute a)) done came l l' = (is_hear a && done) ≡ true → hears l x came l'
-LineDid hears drops mends (Some call.DropLine) done came l l' = drops l l'
-LineDid hears drops mends (Some call.MendLine) done came l l' = mends l l'
+abbrev pub LineDid : {L : Type 0} → Line L → Option Call → Bool → Option Message → L → L → Type 0
+LineDid line None done came l l' = l' ≡ l
+LineDid line (Some (call.Act x minute a)) done came l l' = (is_hear a && done) ≡ true → line.hears l x came l'
+LineDid line (Some call.DropLine) done came l l' = line.drops l l'
+LineDid line (Some call.MendLine) done came l l' = line.mends l l'
 
--- what comes of a call: the answer, both stations, the papers and the line are as the rules say, with what the line let come
-pub record Comes {L : Type 0} (means : L → Meaning) (hears : L → Station → Option Message → L → Type 0) (drops mends : L → L → Type 0) (c : Option Call) (r : Result ℕ Fault) (s s' : Section L) (q q' : Queue Paper) : Type 0 where
+-- a call is performed: the answer, both stations, the papers and the line are as the rules say, with what the line let come
+pub record Performed {L : Type 0} (line : Line L) (c : Option Call) (answer : Result ℕ CallFault) (s s' : Section L) (q q' : Queue Paper) : Type 0 where
   pub came : Option Message
-  pub answer : Result ℕ CallFault
-  pub shown : r ≡ outward answer
-  pub ruled : record { answer = answer; after = state means s' q' } ≡ outcome_of c (chosen came (means s'.line.now)) (state means s q)
-  pub by_line : LineDid hears drops mends c (is_ok answer) came s.line.now s'.line.now
+  pub ruled : record { answer = answer; after = state line s' q' } ≡ outcome_of c (chosen came (line.meaning s'.line.now)) (state line s q)
+  pub by_line : LineDid line c (is_ok answer) came s.line.now s'.line.now
   -- the space of the tray, and all of the tray where the call is refused
   pub tray_kept : TrayKept q q'
   pub refused : is_ok answer ≡ false → q' ≡ q
   pub same_line : s'.line.ghost_name ≡ s.line.ghost_name
+
+-- what comes of a call: it is performed, and its answer is shown outward
+pub record Comes {L : Type 0} (line : Line L) (c : Option Call) (r : Result ℕ Fault) (s s' : Section L) (q q' : Queue Paper) : Type 0 where
+  pub answer : Result ℕ CallFault
+  pub shown : r ≡ outward answer
+  pub done : Performed line c answer s s' q q'

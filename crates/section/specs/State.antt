@@ -1,6 +1,7 @@
 -- The section of the code as the section of the rules.
 use Rattle.std.specs.Prelude.{◌≡◌, min, List, length}
 use Rattle.line.specs.Meaning.{Meaning}
+use Rattle.line.specs.declared.line.Line.{Ghosts as Line}
 use Rattle.queue.specs.Model.{items, places, room_of, spare}
 use Rattle.queue.specs.declared.Queue.{Queue}
 use Rattle.cabinets.specs.Section.{Section as Situation}
@@ -11,8 +12,8 @@ use Rattle.vocabulary.specs.declared.station.Station.TheVariants.{A, B}
 use Rattle.section.specs.declared.Section.{Section}
 
 -- the section with the tray that is lent to it, by what its line means. A tray lent from elsewhere, with less room than this section's, is full that much sooner
-abbrev pub state : {L : Type 0} → (L → Meaning) → Section L → Queue Paper → Situation
-state means s q = record { track = s.track; at_a = s.at_a; at_b = s.at_b; tray = items q; size = min s.size (room_of q); line = means s.line.now }
+abbrev pub state : {L : Type 0} → Line L → Section L → Queue Paper → Situation
+state line s q = record { track = s.track; at_a = s.cabinets.a; at_b = s.cabinets.b; tray = items q; size = min s.size (room_of q); line = line.meaning s.line.now }
 
 -- what no call alters of a tray that is lent to it: its room, which space it is, the space's length, and every place beyond the room
 pub record TrayKept (q q' : Queue Paper) : Type 0 where
@@ -25,8 +26,8 @@ pub record TrayKept (q q' : Queue Paper) : Type 0 where
 pub record OnlyLine {L : Type 0} (s s' : Section L) : Type 0 where
   pub same_track : s'.track ≡ s.track
   pub same_size : s'.size ≡ s.size
-  pub same_a : s'.at_a ≡ s.at_a
-  pub same_b : s'.at_b ≡ s.at_b
+  pub same_a : s'.cabinets.a ≡ s.cabinets.a
+  pub same_b : s'.cabinets.b ≡ s.cabinets.b
   pub same_line : s'.line.ghost_name ≡ s.line.ghost_name
 
 -- the section with a station's cabinet, the papers and the line as they are after an act

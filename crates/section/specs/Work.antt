@@ -1,9 +1,11 @@
 -- What a station does at its desk: at its cabinet and in the tray, with what came over the line. What it has to say is left to be posted.
 use Rattle.std.specs.Prelude.{ℕ, List, [], ◌∷◌, ◌++◌, length, Some, None, Ok, Err, Option, Result, nat_le}
 use Rattle.line.specs.declared.message.Message.{Message}
+use Rattle.line.specs.declared.message.MessageKind.{MessageKind}
 use Rattle.vocabulary.specs.declared.fault.CallFault.{CallFault}
 use Rattle.vocabulary.specs.declared.number.Serial.{Serial}
 use Rattle.cabinets.specs.Acts.{accepting, arriving, asking, cancelling, declaring_dead, departing, hearing, issuing, releasing, reporting, resuming, setting_back}
+use Rattle.cabinets.specs.Effects.{kind_number}
 use Rattle.vocabulary.specs.declared.station.Station.{Station}
 use Rattle.cabinets.specs.Section.{View}
 use Rattle.cabinets.specs.Tray.{but_oldest, but_youngest, has_live, in_hand, oldest, youngest, youngest_departed}
@@ -51,6 +53,12 @@ abbrev pub taking : Result ℕ CallFault → Cabinet → List Paper → List Pap
 taking (Ok n) c papers after = (Ok (record { answer = n; message = None }), (c, after))
 taking (Err f) c papers after = (Err f, (c, papers))
 
+-- a hearing tells the kind of what came, or 0
+abbrev pub telling : Result (Option MessageKind) CallFault → Cabinet → List Paper → Worked
+telling (Ok None) c papers = (Ok (record { answer = 0; message = None }), (c, papers))
+telling (Ok (Some k)) c papers = (Ok (record { answer = kind_number k; message = None }), (c, papers))
+telling (Err f) c papers = (Err f, (c, papers))
+
 -- a change of working has no answer but 0
 abbrev pub changing : Result (Unit {0}) CallFault → Cabinet → List Paper → Worked
 changing (Ok u) c papers = (Ok (record { answer = 0; message = None }), (c, papers))
@@ -76,6 +84,6 @@ working d act.Report size c papers =
     saying (λ m. m.«record».0) (reporting d.minute c).0 (reporting d.minute c).1 papers
 working d act.Release size c papers =
     saying (λ m. m.«record».0) (releasing d.at d.minute (sight d size papers) c).0 (releasing d.at d.minute (sight d size papers) c).1 papers
-working d act.Hear size c papers = taking (hearing d.minute d.came c).0 (hearing d.minute d.came c).1 papers papers
+working d act.Hear size c papers = telling (hearing d.minute d.came c).0 (hearing d.minute d.came c).1 papers
 working d act.DeclareDead size c papers = changing (declaring_dead d.minute d.up c).0 (declaring_dead d.minute d.up c).1 papers
 working d act.Resume size c papers = changing (resuming d.minute d.up c).0 (resuming d.minute d.up c).1 papers

@@ -1,30 +1,29 @@
-// The fourteen calls, by their fields and one by one.
-ghost use Rattle.std.specs.Prelude.{◌≡◌, true, false, is_ok, Some};
+// The fourteen calls, by their fields and one by one. Those of a station differ only in the act, and have one body, `act_checked`; each keeps its name and its own parameters for callers.
+ghost use Rattle.std.specs.Prelude.{Some};
 ghost use Rattle.cabinets.specs.Calls.{call_from, checked_call};
-ghost use Rattle.cabinets.specs.Outcome.{outcome_of};
 ghost use Rattle.cabinets.specs.declared.call.Act.TheVariants as act;
 ghost use Rattle.cabinets.specs.declared.call.Call.TheVariants as call;
-ghost use Rattle.section.specs.Called.{Comes, LineDid, chosen, outward};
+ghost use Rattle.section.specs.Called.{Comes, Performed};
 ghost use Rattle.section.specs.Running.{GoesOn};
-ghost use Rattle.section.specs.State.{TrayKept, state};
+ghost use Rattle.section.specs.State.{state};
 
 use super::Section;
 use cabinets::call::{Act, Call};
 use cabinets::paper::Paper;
-use cabinets::track::Nature;
 use line::line::Line;
-use line::message::Message;
 use queue::Queue;
 use vocabulary::fault::{CallFault, Fault};
 use vocabulary::fields::CallFields;
+use vocabulary::kind::Nature;
 use vocabulary::number::Serial;
 use vocabulary::station::Station;
 
 impl<'l, L: Line> Section<'l, L> {
     // Any call, by the six fields that a log writes.
+    #[tactic(auto, using(crate::proofs::Histories::goes_on))]
     pub fn call(&mut self, tray: &mut Queue<'_, Paper>, fields: &CallFields) -> Result<u32, Fault>
-        ensures comes { Comes L.Line.meaning L.Line.hears L.Line.drops L.Line.mends (call_from fields.now) result self.old self.new tray.old tray.new }
-        ensures safe { GoesOn fields.now result (state L.Line.meaning self.old tray.old) (state L.Line.meaning self.new tray.new) }
+        ensures comes { Comes L.Line (call_from fields.now) result self.old self.new tray.old tray.new }
+        ensures safe { GoesOn fields.now result (state L.Line self.old tray.old) (state L.Line self.new tray.new) }
     {
         let call = Call::read(fields);
         self.answer(tray, call)
@@ -38,7 +37,7 @@ impl<'l, L: Line> Section<'l, L> {
         minute: u32,
         train: u32,
     ) -> Result<u32, Fault>
-        ensures { Comes L.Line.meaning L.Line.hears L.Line.drops L.Line.mends (checked_call at minute (act.Ask train)) result self.old self.new tray.old tray.new }
+        ensures { Comes L.Line (checked_call at minute (act.Ask train)) result self.old self.new tray.old tray.new }
     {
         self.act_checked(tray, at, minute, Act::Ask(train))
     }
@@ -50,7 +49,7 @@ impl<'l, L: Line> Section<'l, L> {
         at: Station,
         minute: u32,
     ) -> Result<u32, Fault>
-        ensures { Comes L.Line.meaning L.Line.hears L.Line.drops L.Line.mends (checked_call at minute act.Accept) result self.old self.new tray.old tray.new }
+        ensures { Comes L.Line (checked_call at minute act.Accept) result self.old self.new tray.old tray.new }
     {
         self.act_checked(tray, at, minute, Act::Accept)
     }
@@ -65,7 +64,7 @@ impl<'l, L: Line> Section<'l, L> {
         nature: Nature,
         pass: bool,
     ) -> Result<u32, Fault>
-        ensures { Comes L.Line.meaning L.Line.hears L.Line.drops L.Line.mends (checked_call at minute (act.Issue train nature pass)) result self.old self.new tray.old tray.new }
+        ensures { Comes L.Line (checked_call at minute (act.Issue train nature pass)) result self.old self.new tray.old tray.new }
     {
         self.act_checked(tray, at, minute, Act::Issue(train, nature, pass))
     }
@@ -77,7 +76,7 @@ impl<'l, L: Line> Section<'l, L> {
         at: Station,
         minute: u32,
     ) -> Result<u32, Fault>
-        ensures { Comes L.Line.meaning L.Line.hears L.Line.drops L.Line.mends (checked_call at minute act.Depart) result self.old self.new tray.old tray.new }
+        ensures { Comes L.Line (checked_call at minute act.Depart) result self.old self.new tray.old tray.new }
     {
         self.act_checked(tray, at, minute, Act::Depart)
     }
@@ -89,7 +88,7 @@ impl<'l, L: Line> Section<'l, L> {
         at: Station,
         minute: u32,
     ) -> Result<u32, Fault>
-        ensures { Comes L.Line.meaning L.Line.hears L.Line.drops L.Line.mends (checked_call at minute act.Cancel) result self.old self.new tray.old tray.new }
+        ensures { Comes L.Line (checked_call at minute act.Cancel) result self.old self.new tray.old tray.new }
     {
         self.act_checked(tray, at, minute, Act::Cancel)
     }
@@ -102,7 +101,7 @@ impl<'l, L: Line> Section<'l, L> {
         minute: u32,
         serial: Serial,
     ) -> Result<u32, Fault>
-        ensures { Comes L.Line.meaning L.Line.hears L.Line.drops L.Line.mends (checked_call at minute (act.Arrive serial)) result self.old self.new tray.old tray.new }
+        ensures { Comes L.Line (checked_call at minute (act.Arrive serial)) result self.old self.new tray.old tray.new }
     {
         self.act_checked(tray, at, minute, Act::Arrive(serial))
     }
@@ -115,7 +114,7 @@ impl<'l, L: Line> Section<'l, L> {
         minute: u32,
         serial: Serial,
     ) -> Result<u32, Fault>
-        ensures { Comes L.Line.meaning L.Line.hears L.Line.drops L.Line.mends (checked_call at minute (act.SetBack serial)) result self.old self.new tray.old tray.new }
+        ensures { Comes L.Line (checked_call at minute (act.SetBack serial)) result self.old self.new tray.old tray.new }
     {
         self.act_checked(tray, at, minute, Act::SetBack(serial))
     }
@@ -127,7 +126,7 @@ impl<'l, L: Line> Section<'l, L> {
         at: Station,
         minute: u32,
     ) -> Result<u32, Fault>
-        ensures { Comes L.Line.meaning L.Line.hears L.Line.drops L.Line.mends (checked_call at minute act.Report) result self.old self.new tray.old tray.new }
+        ensures { Comes L.Line (checked_call at minute act.Report) result self.old self.new tray.old tray.new }
     {
         self.act_checked(tray, at, minute, Act::Report)
     }
@@ -139,7 +138,7 @@ impl<'l, L: Line> Section<'l, L> {
         at: Station,
         minute: u32,
     ) -> Result<u32, Fault>
-        ensures { Comes L.Line.meaning L.Line.hears L.Line.drops L.Line.mends (checked_call at minute act.Release) result self.old self.new tray.old tray.new }
+        ensures { Comes L.Line (checked_call at minute act.Release) result self.old self.new tray.old tray.new }
     {
         self.act_checked(tray, at, minute, Act::Release)
     }
@@ -151,7 +150,7 @@ impl<'l, L: Line> Section<'l, L> {
         at: Station,
         minute: u32,
     ) -> Result<u32, Fault>
-        ensures { Comes L.Line.meaning L.Line.hears L.Line.drops L.Line.mends (checked_call at minute act.Hear) result self.old self.new tray.old tray.new }
+        ensures { Comes L.Line (checked_call at minute act.Hear) result self.old self.new tray.old tray.new }
     {
         self.act_checked(tray, at, minute, Act::Hear)
     }
@@ -163,7 +162,7 @@ impl<'l, L: Line> Section<'l, L> {
         at: Station,
         minute: u32,
     ) -> Result<u32, Fault>
-        ensures { Comes L.Line.meaning L.Line.hears L.Line.drops L.Line.mends (checked_call at minute act.DeclareDead) result self.old self.new tray.old tray.new }
+        ensures { Comes L.Line (checked_call at minute act.DeclareDead) result self.old self.new tray.old tray.new }
     {
         self.act_checked(tray, at, minute, Act::DeclareDead)
     }
@@ -175,21 +174,21 @@ impl<'l, L: Line> Section<'l, L> {
         at: Station,
         minute: u32,
     ) -> Result<u32, Fault>
-        ensures { Comes L.Line.meaning L.Line.hears L.Line.drops L.Line.mends (checked_call at minute act.Resume) result self.old self.new tray.old tray.new }
+        ensures { Comes L.Line (checked_call at minute act.Resume) result self.old self.new tray.old tray.new }
     {
         self.act_checked(tray, at, minute, Act::Resume)
     }
 
     // The line goes down.
     pub fn drop_line(&mut self, tray: &mut Queue<'_, Paper>) -> Result<u32, Fault>
-        ensures { Comes L.Line.meaning L.Line.hears L.Line.drops L.Line.mends (Some call.DropLine) result self.old self.new tray.old tray.new }
+        ensures { Comes L.Line (Some call.DropLine) result self.old self.new tray.old tray.new }
     {
         self.answer(tray, Some(Call::DropLine))
     }
 
     // The line comes up again.
     pub fn mend_line(&mut self, tray: &mut Queue<'_, Paper>) -> Result<u32, Fault>
-        ensures { Comes L.Line.meaning L.Line.hears L.Line.drops L.Line.mends (Some call.MendLine) result self.old self.new tray.old tray.new }
+        ensures { Comes L.Line (Some call.MendLine) result self.old self.new tray.old tray.new }
     {
         self.answer(tray, Some(Call::MendLine))
     }
@@ -202,7 +201,7 @@ impl<'l, L: Line> Section<'l, L> {
         minute: u32,
         act: Act,
     ) -> Result<u32, Fault>
-        ensures { Comes L.Line.meaning L.Line.hears L.Line.drops L.Line.mends (checked_call at minute act) result self.old self.new tray.old tray.new }
+        ensures { Comes L.Line (checked_call at minute act) result self.old self.new tray.old tray.new }
     {
         let call = Call::new(at, minute, act);
         self.answer(tray, call)
@@ -210,38 +209,26 @@ impl<'l, L: Line> Section<'l, L> {
 
     // Answers a call that was read, or refuses one that could not be.
     fn answer(&mut self, tray: &mut Queue<'_, Paper>, call: Option<Call>) -> Result<u32, Fault>
-        ensures { Comes L.Line.meaning L.Line.hears L.Line.drops L.Line.mends call result self.old self.new tray.old tray.new }
+        ensures { Comes L.Line call result self.old self.new tray.old tray.new }
     {
-        let (answer, _) = self.perform(tray, call);
-        match answer {
-            Ok(number) => Ok(number),
-            Err(fault) => Err(Fault::Call(fault, 0)),
-        }
+        Ok(self.perform(tray, call)?)
     }
 
-    // Performs a call: what comes of it, and what came over the line.
-    fn perform(
-        &mut self,
-        tray: &mut Queue<'_, Paper>,
-        call: Option<Call>,
-    ) -> (Result<u32, CallFault>, Option<Message>)
-        ensures ruled { record { answer = result.0; after = state L.Line.meaning self.new tray.new } ≡ outcome_of call (chosen result.1 (L.Line.meaning self.new.line.now)) (state L.Line.meaning self.old tray.old) }
-        ensures by_line { LineDid L.Line.hears L.Line.drops L.Line.mends call (is_ok result.0) result.1 self.old.line.now self.new.line.now }
-        ensures tray_kept { TrayKept tray.old tray.new }
-        ensures refused { is_ok result.0 ≡ false → tray.new ≡ tray.old }
-        ensures same_line { self.new.line.ghost_name ≡ self.old.line.ghost_name }
+    // Performs a call. A station's act, a drop and a mend are each another thing to do, told apart by their own match.
+    fn perform(&mut self, tray: &mut Queue<'_, Paper>, call: Option<Call>) -> Result<u32, CallFault>
+        ensures { Performed L.Line call result self.old self.new tray.old tray.new }
     {
         match call {
             Some(Call::Act(at, minute, act)) => self.act(tray, at, minute, act),
             Some(Call::DropLine) => {
                 self.line.drop_line();
-                (Ok(0), None)
+                Ok(0)
             }
             Some(Call::MendLine) => {
                 self.line.mend_line();
-                (Ok(0), None)
+                Ok(0)
             }
-            None => (Err(CallFault::Field), None),
+            None => Err(CallFault::Field),
         }
     }
 }

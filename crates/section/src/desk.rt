@@ -13,10 +13,11 @@ use cabinets::cabinet::Cabinet;
 use cabinets::call::Act;
 use cabinets::paper::{Paper, is_in_hand};
 use cabinets::sight::Sight;
-use cabinets::track::{Nature, Track};
+use cabinets::track::Track;
 use line::message::Message;
 use queue::Queue;
 use vocabulary::fault::CallFault;
+use vocabulary::kind::Nature;
 use vocabulary::number::Serial;
 use vocabulary::station::Station;
 
@@ -71,7 +72,7 @@ impl Desk {
     }
 }
 
-// Each act.
+// Each act. Which one runs is told by a match on `Act`: each takes other values of it and another part of the cabinet and the tray, which closures would only hide.
 impl Desk {
     // Asks for a train.
     fn ask(
@@ -210,7 +211,7 @@ impl Desk {
         ensures { (size : ℕ) (papers : List Paper) → (result, (cabinet.new, papers)) ≡ working self.now act.Hear size cabinet.old papers }
     {
         let kind = cabinet.hear(self.minute, self.came)?;
-        Ok(answered(kind))
+        Ok(answered(kind.map_or(0, |kind| kind as u32)))
     }
 
     // Declares dead working.

@@ -4,11 +4,13 @@
 use cabinets::cabinet::Cabinet;
 use cabinets::track::Track;
 use line::line::Line;
+use line::per_station::PerStation;
 
 mod acting;
 mod calling;
 mod desk;
 mod making;
+pub mod plan;
 mod running;
 mod tray;
 pub mod turn;
@@ -20,7 +22,6 @@ pub use running::play;
 pub struct Section<'l, L> {
     track: Track,
     size: usize,
-    at_a: Cabinet,
-    at_b: Cabinet,
+    cabinets: PerStation<Cabinet>,
     line: &'l mut L,
 }

@@ -16,6 +16,7 @@ pub(crate) fn oldest(tray: &Queue<'_, Paper>) -> Option<Paper>
 }
 
 // The paper issued last.
+#[tactic(auto, using(crate::proofs::Trays::last_is_youngest))]
 pub(crate) fn youngest(tray: &Queue<'_, Paper>) -> Option<Paper>
     ensures { result ≡ youngest (items tray.now) }
 {
@@ -33,14 +34,7 @@ pub(crate) fn is_full(tray: &Queue<'_, Paper>, size: usize) -> bool
 pub(crate) fn has_live(tray: &Queue<'_, Paper>, of: Station) -> bool
     ensures { result ≡ has_live of (items tray.now) }
 {
-    for at in 0..tray.len() {
-        if let Some(paper) = tray.get(at) {
-            if paper.station == of {
-                return true;
-            }
-        }
-    }
-    false
+    tray.iter().any(|paper| paper.station == of)
 }
 
 // Puts a paper behind the others.
@@ -67,6 +61,7 @@ pub(crate) fn mark_departed(tray: &mut Queue<'_, Paper>, minute: u32)
 }
 
 // Takes the youngest paper out.
+#[tactic(auto, using(crate::proofs::Trays::rest_is_older))]
 pub(crate) fn take_youngest(tray: &mut Queue<'_, Paper>)
     ensures papers { items tray.new ≡ but_youngest (items tray.old) }
     ensures kept { TrayKept tray.old tray.new }

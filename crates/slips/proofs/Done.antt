@@ -1,17 +1,17 @@
 -- What a call that was carried out answered, and the papers after it.
 use Rattle.std.proofs.Common.{◌≡◌, ℕ, suc, ◌-◌, Bool, true, false, cond, ◌&&◌, leb, List, [], ◌∷◌, length, is_ok, Some, None, Ok, Err, Option, Result, sym, refl, ap, ◌∙◌, subst, arith}
+use Rattle.std.specs.Prelude.{slice_get}
 use Rattle.std.proofs.lemmas.Bool.{and_parts, eq-eqb, false≢true, leb-true}
-use Rattle.line.specs.Meaning.{Meaning}
-use Rattle.line.specs.declared.message.Message.{Message}
+use Rattle.line.specs.declared.line.Line.{Ghosts as Line}
 use Rattle.queue.specs.Model.{items}
-use Rattle.queue.specs.Outcomes.{item_at, last_item}
+use Rattle.queue.specs.Outcomes.{last_item}
 use Rattle.queue.specs.declared.Queue.{Queue}
 use Rattle.vocabulary.specs.declared.fault.CallFault.{CallFault}
 use Rattle.vocabulary.specs.declared.fault.CallFault.TheVariants.{Field}
 use Rattle.vocabulary.specs.declared.fault.Fault.{Fault}
 use Rattle.vocabulary.specs.declared.station.Station.{Station}
 use Rattle.vocabulary.specs.declared.station.Station.TheVariants.{A, B}
-use Rattle.law.proofs.Basics.{same_refl, some_not_none, youngest_push}
+use Rattle.rules.proofs.Basics.{same_refl, some_not_none, youngest_push}
 use Rattle.cabinets.specs.Calls.{checked_call, in_bounds}
 use Rattle.cabinets.specs.Effects.{here_after, tray_after}
 use Rattle.cabinets.specs.Outcome.{Choice, Outcome, call_answer, call_refusal, judged, outcome_of, section_after}
@@ -22,7 +22,7 @@ use Rattle.cabinets.specs.declared.call.Act.TheVariants as act
 use Rattle.cabinets.specs.declared.call.Call.{Call}
 use Rattle.cabinets.specs.declared.call.Call.TheVariants as call
 use Rattle.cabinets.specs.declared.paper.Paper.{Paper}
-use Rattle.cabinets.specs.declared.track.Nature.{Nature}
+use Rattle.vocabulary.specs.declared.kind.Nature.{Nature}
 use Rattle.section.specs.Called.{Comes, chosen, outward}
 use Rattle.section.specs.State.{state}
 use Rattle.section.specs.declared.Section.{Section}
@@ -36,7 +36,7 @@ last_is_youngest (p ∷ []) = refl
 last_is_youngest (p ∷ q ∷ ps) =
     let two : suc (suc (length ps)) - 1 ≡ suc (length ps) = omega arith in
     let one : length ps ≡ suc (length ps) - 1 = omega arith in
-    ap (item_at (p ∷ q ∷ ps)) two ∙ ap (item_at (q ∷ ps)) one ∙ last_is_youngest (q ∷ ps)
+    ap (slice_get (p ∷ q ∷ ps)) two ∙ ap (slice_get (q ∷ ps)) one ∙ last_is_youngest (q ∷ ps)
 
 was_ok : (a : Result ℕ CallFault) (n : ℕ) → Ok n ≡ outward a → a ≡ Ok n
 was_ok (Ok k) n e = let i : n ≡ k = cc in ap Ok (sym i)
@@ -77,25 +77,25 @@ pub cabinet_after : (x : Station) (minute : ℕ) (a : Act) (ch : Choice) (s : Si
 cabinet_after A minute a ch s = refl
 cabinet_after B minute a ch s = refl
 
-module _ {L : Type 0} (m : L → Meaning) (hears : L → Station → Option Message → L → Type 0) (drops mends : L → L → Type 0) (s s' : Section L) (q q' : Queue Paper) where
-  pub done : (x : Station) (minute : ℕ) (a : Act) (n : ℕ) (c : Comes m hears drops mends (checked_call x minute a) (Ok n) s s' q q') → CarriedOut (leb minute 1_000_000_000 && in_bounds a) (call.Act x minute a) (chosen c.came (m s'.line.now)) n (state m s q) (state m s' q')
+module _ {L : Type 0} (line : Line L) (s s' : Section L) (q q' : Queue Paper) where
+  pub done : (x : Station) (minute : ℕ) (a : Act) (n : ℕ) (c : Comes line (checked_call x minute a) (Ok n) s s' q q') → CarriedOut (leb minute 1_000_000_000 && in_bounds a) (call.Act x minute a) (chosen c.done.came (line.meaning s'.line.now)) n (state line s q) (state line s' q')
   done x minute a n c =
-      let ch = chosen c.came (m s'.line.now) in
-      was_called (leb minute 1_000_000_000 && in_bounds a) (call.Act x minute a) ch n (state m s q) (state m s' q') (subst (λ y. ◌≡◌ {A = Outcome} (record { answer = y; after = state m s' q' }) (outcome_of (checked_call x minute a) ch (state m s q))) (was_ok c.answer n c.shown) c.ruled)
+      let ch = chosen c.done.came (line.meaning s'.line.now) in
+      was_called (leb minute 1_000_000_000 && in_bounds a) (call.Act x minute a) ch n (state line s q) (state line s' q') (subst (λ y. ◌≡◌ {A = Outcome} (record { answer = y; after = state line s' q' }) (outcome_of (checked_call x minute a) ch (state line s q))) (was_ok c.answer n c.shown) c.done.ruled)
 
   -- a refusal alters nothing
-  pub refused : (x : Station) (minute : ℕ) (a : Act) (f : Fault) → Comes m hears drops mends (checked_call x minute a) (Err f) s s' q q' → (state m s' q' ≡ state m s q) × ((leb minute 1_000_000_000 && in_bounds a) ≡ true → call_refusal (call.Act x minute a) (state m s q) ≡ None → ⊥)
-  refused x minute a f c = call_refused (leb minute 1_000_000_000 && in_bounds a) (call.Act x minute a) (chosen c.came (m s'.line.now)) (state m s q) (state m s' q') c.answer (was_err c.answer f c.shown) c.ruled
+  pub refused : (x : Station) (minute : ℕ) (a : Act) (f : Fault) → Comes line (checked_call x minute a) (Err f) s s' q q' → (state line s' q' ≡ state line s q) × ((leb minute 1_000_000_000 && in_bounds a) ≡ true → call_refusal (call.Act x minute a) (state line s q) ≡ None → ⊥)
+  refused x minute a f c = call_refused (leb minute 1_000_000_000 && in_bounds a) (call.Act x minute a) (chosen c.done.came (line.meaning s'.line.now)) (state line s q) (state line s' q') c.answer (was_err c.answer f c.shown) c.done.ruled
 
   -- the slip of a paper just issued is that of the paper in hand, and ripe
-  pub issued : (x : Station) (minute train : ℕ) (nature : Nature) (pass : Bool) (plain : Result ℕ Fault) → Comes m hears drops mends (checked_call x minute (act.Issue train nature pass)) plain s s' q q' → (r : Result Slip Fault) → r ≡ slip_for x plain → (slip : Slip) → r ≡ Ok slip → (is_of_paper_in_hand slip (items q') ≡ true) × Ripe m slip minute s' q'
+  pub issued : (x : Station) (minute train : ℕ) (nature : Nature) (pass : Bool) (plain : Result ℕ Fault) → Comes line (checked_call x minute (act.Issue train nature pass)) plain s s' q q' → (r : Result Slip Fault) → r ≡ slip_for x plain → (slip : Slip) → r ≡ Ok slip → (is_of_paper_in_hand slip (items q') ≡ true) × Ripe line slip minute s' q'
   issued x minute train nature pass (Ok n) c r shown slip e =
       let d = done x minute (act.Issue train nature pass) n c in
-      let ch = chosen c.came (m s'.line.now) in
+      let ch = chosen c.done.came (line.meaning s'.line.now) in
       let i : record { station = x; serial = record { 0 = n } } ≡ slip = cc in
-      let t = ap (λ y. y.tray) d.after ∙ papers_after x minute (act.Issue train nature pass) ch (state m s q) in
-      let k = ap (cabinet x) d.after ∙ cabinet_after x minute (act.Issue train nature pass) ch (state m s q) in
+      let t = ap (λ y. y.tray) d.after ∙ papers_after x minute (act.Issue train nature pass) ch (state line s q) in
+      let k = ap (cabinet x) d.after ∙ cabinet_after x minute (act.Issue train nature pass) ch (state line s q) in
       let b = leb-true _ _ (and_parts _ _ d.allowed).0 in
-      subst (λ y. (is_of_paper_in_hand y (items q') ≡ true) × Ripe m y minute s' q') i
+      subst (λ y. (is_of_paper_in_hand y (items q') ≡ true) × Ripe line y minute s' q') i
       (rw (t, youngest_push (items q) _, same_refl x, d.answer) (eq-eqb _ _ refl), record { in_bounds = b; on_time = rw k (omega arith); issued_here = rw (k, d.answer) (omega arith) })
   issued x minute train nature pass (Err f) c r shown slip e = let z : ◌≡◌ {A = ℕ} 0 1 = cc in absurd (omega arith)

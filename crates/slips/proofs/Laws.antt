@@ -1,7 +1,7 @@
 -- What a holder of a slip can rely on.
 use Rattle.std.proofs.Common.{◌≡◌, ℕ, Bool, true, false, cond, ltb, leb, List, None, Ok, Err, Option, Result, sym, refl, ap, ◌∙◌, arith}
 use Rattle.std.proofs.lemmas.Bool.{and_from, and_parts, le-leb, le-ltb}
-use Rattle.line.specs.Meaning.{Meaning}
+use Rattle.line.specs.declared.line.Line.{Ghosts as Line}
 use Rattle.line.specs.declared.message.Message.{Message}
 use Rattle.queue.specs.Model.{items}
 use Rattle.queue.specs.declared.Queue.{Queue}
@@ -70,46 +70,46 @@ same_back {slip} {back} {f} (Err g) e = let i : Back slip g ≡ Back back f = cc
 err_of : {u v : Unspent} → ◌≡◌ {A = Result Serial Unspent} (Err u) (Err v) → u ≡ v
 err_of e = cc
 
-module _ {L : Type 0} (m : L → Meaning) (hears : L → Station → Option Message → L → Type 0) (drops mends : L → L → Type 0) (s s' : Section L) (q q' : Queue Paper) (slip : Slip) (minute : ℕ) {a : Act} (on : OnSlip a) where
-  passes : Ripe m slip minute s q → is_of_paper_in_hand slip (items q) ≡ true → call_refusal (call.Act slip.station minute a) (state m s q) ≡ None
+module _ {L : Type 0} (line : Line L) (s s' : Section L) (q q' : Queue Paper) (slip : Slip) (minute : ℕ) {a : Act} (on : OnSlip a) where
+  passes : Ripe line slip minute s q → is_of_paper_in_hand slip (items q) ≡ true → call_refusal (call.Act slip.station minute a) (state line s q) ≡ None
   passes ripe e =
-      let t = ap refusal (its_tests on slip.station minute (seen slip.station (state m s q))) in
-      t ∙ rw (le-ltb minute (cabinet slip.station (state m s q)).clock ripe.on_time, (and_parts (is_in_hand slip.station (youngest (items q))) _ e).0) refl
+      let t = ap refusal (its_tests on slip.station minute (seen slip.station (state line s q))) in
+      t ∙ rw (le-ltb minute (cabinet slip.station (state line s q)).clock ripe.on_time, (and_parts (is_in_hand slip.station (youngest (items q))) _ e).0) refl
 
   -- a ripe slip is spent or ends
-  pub ripe_ends : (r : Result Serial Unspent) → Spends m hears drops mends a slip minute r s s' q q' → Ripe m slip minute s q → comes_back r ≡ false
+  pub ripe_ends : (r : Result Serial Unspent) → Spends line a slip minute r s s' q q' → Ripe line slip minute s q → comes_back r ≡ false
   ripe_ends r sp ripe = go (is_of_paper_in_hand slip (items q)) refl sp
     where
-      plain : (p : Result ℕ Fault) → Comes m hears drops mends (checked_call slip.station minute a) p s s' q q' → is_of_paper_in_hand slip (items q) ≡ true → comes_back (settled slip p) ≡ false
+      plain : (p : Result ℕ Fault) → Comes line (checked_call slip.station minute a) p s s' q q' → is_of_paper_in_hand slip (items q) ≡ true → comes_back (settled slip p) ≡ false
       plain (Ok n) c e = refl
-      plain (Err f) c e = absurd ((refused m hears drops mends s s' q q' slip.station minute a f c).1 (and_from _ _ (le-leb _ _ ripe.in_bounds) (its_bounds on)) (passes ripe e))
+      plain (Err f) c e = absurd ((refused line s s' q q' slip.station minute a f c).1 (and_from _ _ (le-leb _ _ ripe.in_bounds) (its_bounds on)) (passes ripe e))
 
-      go : (b : Bool) → is_of_paper_in_hand slip (items q) ≡ b → cond b (Plain m hears drops mends a slip minute r s s' q q') (Unmatched m hears drops mends slip minute r s s' q q') → comes_back r ≡ false
+      go : (b : Bool) → is_of_paper_in_hand slip (items q) ≡ b → cond b (Plain line a slip minute r s s' q q') (Unmatched line slip minute r s s' q q') → comes_back r ≡ false
       go true e p = ap comes_back p.shown ∙ plain p.plain p.comes e
       go false e u = ap comes_back u.refused ∙ rw (le-ltb _ _ ripe.in_bounds, le-ltb _ _ ripe.on_time, le-leb _ _ ripe.issued_here) refl
 
   -- a slip that comes back is the same, and nothing was altered
-  pub back_unaltered : (r : Result Serial Unspent) → Spends m hears drops mends a slip minute r s s' q q' → (u : Unspent) → r ≡ Err u → (back : Slip) (f : Fault) → u ≡ Back back f → (back ≡ slip) × (state m s' q' ≡ state m s q)
+  pub back_unaltered : (r : Result Serial Unspent) → Spends line a slip minute r s s' q q' → (u : Unspent) → r ≡ Err u → (back : Slip) (f : Fault) → u ≡ Back back f → (back ≡ slip) × (state line s' q' ≡ state line s q)
   back_unaltered r sp u e back f b = go (is_of_paper_in_hand slip (items q)) sp
     where
       i : r ≡ Err (Back back f)
       i = e ∙ ap Err b
 
-      plain : (p : Result ℕ Fault) → Comes m hears drops mends (checked_call slip.station minute a) p s s' q q' → settled slip p ≡ Err (Back back f) → state m s' q' ≡ state m s q
+      plain : (p : Result ℕ Fault) → Comes line (checked_call slip.station minute a) p s s' q q' → settled slip p ≡ Err (Back back f) → state line s' q' ≡ state line s q
       plain (Ok n) c j = let z : ◌≡◌ {A = ℕ} 0 1 = cc in absurd (omega arith)
-      plain (Err g) c j = (refused m hears drops mends s s' q q' slip.station minute a g c).0
+      plain (Err g) c j = (refused line s s' q q' slip.station minute a g c).0
 
-      go : (t : Bool) → cond t (Plain m hears drops mends a slip minute r s s' q q') (Unmatched m hears drops mends slip minute r s s' q q') → (back ≡ slip) × (state m s' q' ≡ state m s q)
+      go : (t : Bool) → cond t (Plain line a slip minute r s s' q q') (Unmatched line slip minute r s s' q q') → (back ≡ slip) × (state line s' q' ≡ state line s q)
       go true p = let j = sym p.shown ∙ i in (same_back p.plain j, plain p.plain p.comes j)
-      go false k = (unmatched_back slip back f minute (cabinet slip.station (state m s q)) (err_of (sym k.refused ∙ i)), rw (k.same_section, k.same_tray) refl)
+      go false k = (unmatched_back slip back f minute (cabinet slip.station (state line s q)) (err_of (sym k.refused ∙ i)), rw (k.same_section, k.same_tray) refl)
 
   -- a section that is as it was
-  pub ripe_still : state m s' q' ≡ state m s q → Ripe m slip minute s q → Ripe m slip minute s' q'
+  pub ripe_still : state line s' q' ≡ state line s q → Ripe line slip minute s q → Ripe line slip minute s' q'
   ripe_still e ripe = record { in_bounds = ripe.in_bounds; on_time = rw e ripe.on_time; issued_here = rw e ripe.issued_here }
 
   -- a ripe slip stays ripe when its station's paper in hand departs or is cancelled by the plain call
-  pub ripe_after : (r : Result ℕ Fault) → Comes m hears drops mends (checked_call slip.station minute a) r s s' q q' → Ripe m slip minute s q → Ripe m slip minute s' q'
-  ripe_after (Err f) c ripe = ripe_still (refused m hears drops mends s s' q q' slip.station minute a f c).0 ripe
+  pub ripe_after : (r : Result ℕ Fault) → Comes line (checked_call slip.station minute a) r s s' q q' → Ripe line slip minute s q → Ripe line slip minute s' q'
+  ripe_after (Err f) c ripe = ripe_still (refused line s s' q q' slip.station minute a f c).0 ripe
   ripe_after (Ok n) c ripe =
-      let k = ap (cabinet slip.station) (done m hears drops mends s s' q q' slip.station minute a n c).after ∙ cabinet_after slip.station minute a (chosen c.came (m s'.line.now)) (state m s q) in
-      record { in_bounds = ripe.in_bounds; on_time = rw (ap (λ y. y.clock) k, its_clock on slip.station minute c.came (items q) (cabinet slip.station (state m s q))) (omega arith); issued_here = rw (ap (λ y. y.issued) k, its_issued on slip.station minute c.came (items q) (cabinet slip.station (state m s q))) ripe.issued_here }
+      let k = ap (cabinet slip.station) (done line s s' q q' slip.station minute a n c).after ∙ cabinet_after slip.station minute a (chosen c.done.came (line.meaning s'.line.now)) (state line s q) in
+      record { in_bounds = ripe.in_bounds; on_time = rw (ap (λ y. y.clock) k, its_clock on slip.station minute c.done.came (items q) (cabinet slip.station (state line s q))) (omega arith); issued_here = rw (ap (λ y. y.issued) k, its_issued on slip.station minute c.done.came (items q) (cabinet slip.station (state line s q))) ripe.issued_here }

@@ -1,7 +1,6 @@
 -- What comes of a call that makes or spends a slip.
 use Rattle.std.specs.Prelude.{◌≡◌, ℕ, ◌≤◌, Bool, true, false, cond, ◌&&◌, List, Ok, Err, Option, Result, ◌==◌, nat_le, nat_lt}
-use Rattle.line.specs.Meaning.{Meaning}
-use Rattle.line.specs.declared.message.Message.{Message}
+use Rattle.line.specs.declared.line.Line.{Ghosts as Line}
 use Rattle.queue.specs.Model.{items}
 use Rattle.queue.specs.declared.Queue.{Queue}
 use Rattle.vocabulary.specs.declared.fault.CallFault.TheVariants as why
@@ -16,7 +15,7 @@ use Rattle.cabinets.specs.declared.cabinet.Cabinet.{Cabinet}
 use Rattle.cabinets.specs.declared.call.Act.{Act}
 use Rattle.cabinets.specs.declared.call.Act.TheVariants as act
 use Rattle.cabinets.specs.declared.paper.Paper.{Paper}
-use Rattle.cabinets.specs.declared.track.Nature.{Nature}
+use Rattle.vocabulary.specs.declared.kind.Nature.{Nature}
 use Rattle.section.specs.Called.{Comes}
 use Rattle.section.specs.State.{state}
 use Rattle.section.specs.declared.Section.{Section}
@@ -49,6 +48,10 @@ unmatched slip minute c =
     (cond (nat_lt minute c.clock) (Back slip (fault.Call why.Clock 0))
     (cond (nat_le slip.serial.0 c.issued) (Ended (fault.Call why.NothingThere 0)) (Back slip (fault.Call why.NothingThere 0))))
 
+-- a slip to be spent: itself where it is of the paper in hand, and else refused
+abbrev pub matched : Slip → ℕ → List Paper → Cabinet → Result Slip Unspent
+matched slip minute papers c = cond (is_of_paper_in_hand slip papers) (Ok slip) (Err (unmatched slip minute c))
+
 -- an answer hands the slip back
 abbrev pub comes_back : Result Serial Unspent → Bool
 comes_back (Ok n) = false
@@ -56,30 +59,30 @@ comes_back (Err (Back slip f)) = true
 comes_back (Err (Ended f)) = false
 
 -- a slip is ripe at a minute: the minute is within bounds and not before the clock of the slip's station, and that station has issued the slip's serial. It is then spent or ends: it does not come back
-pub record Ripe {L : Type 0} (means : L → Meaning) (slip : Slip) (minute : ℕ) (s : Section L) (q : Queue Paper) : Type 0 where
+pub record Ripe {L : Type 0} (line : Line L) (slip : Slip) (minute : ℕ) (s : Section L) (q : Queue Paper) : Type 0 where
   pub in_bounds : minute ≤ 1_000_000_000
-  pub on_time : (cabinet slip.station (state means s q)).clock ≤ minute
-  pub issued_here : slip.serial.0 ≤ (cabinet slip.station (state means s q)).issued
+  pub on_time : (cabinet slip.station (state line s q)).clock ≤ minute
+  pub issued_here : slip.serial.0 ≤ (cabinet slip.station (state line s q)).issued
 
-module _ {L : Type 0} (means : L → Meaning) (hears : L → Station → Option Message → L → Type 0) (drops mends : L → L → Type 0) where
+module _ {L : Type 0} (line : Line L) where
   -- an issue that makes a slip: it is the plain issue, and the slip is that of the paper then in hand, and ripe
   pub record Issues (x : Station) (minute train : ℕ) (nature : Nature) (pass : Bool) (r : Result Slip Fault) (s s' : Section L) (q q' : Queue Paper) : Type 0 where
     pub plain : Result ℕ Fault
-    pub comes : Comes means hears drops mends (checked_call x minute (act.Issue train nature pass)) plain s s' q q'
+    pub comes : Comes line (checked_call x minute (act.Issue train nature pass)) plain s s' q q'
     pub shown : r ≡ slip_for x plain
     pub of_paper_in_hand : (slip : Slip) → r ≡ Ok slip → is_of_paper_in_hand slip (items q') ≡ true
-    pub ripe : (slip : Slip) → r ≡ Ok slip → Ripe means slip minute s' q'
+    pub ripe : (slip : Slip) → r ≡ Ok slip → Ripe line slip minute s' q'
 
   -- a slip of the paper in hand: it is the plain call at its station, which answers the slip's serial if it is carried out
   pub record Plain (a : Act) (slip : Slip) (minute : ℕ) (r : Result Serial Unspent) (s s' : Section L) (q q' : Queue Paper) : Type 0 where
     pub plain : Result ℕ Fault
-    pub comes : Comes means hears drops mends (checked_call slip.station minute a) plain s s' q q'
+    pub comes : Comes line (checked_call slip.station minute a) plain s s' q q'
     pub shown : r ≡ settled slip plain
     pub same_serial : (n : ℕ) → plain ≡ Ok n → n ≡ slip.serial.0
 
   -- a slip of another paper: it is refused, and nothing is altered
   pub record Unmatched (slip : Slip) (minute : ℕ) (r : Result Serial Unspent) (s s' : Section L) (q q' : Queue Paper) : Type 0 where
-    pub refused : r ≡ Err (unmatched slip minute (cabinet slip.station (state means s q)))
+    pub refused : r ≡ Err (unmatched slip minute (cabinet slip.station (state line s q)))
     pub same_section : s' ≡ s
     pub same_tray : q' ≡ q
 

@@ -1,14 +1,14 @@
 // Making a slip, and reading it.
 ghost use Rattle.std.specs.Prelude.{◌≡◌};
-ghost use Rattle.slips.specs.Slips.{Issues, slip_for};
+ghost use Rattle.slips.specs.Slips.{Issues};
 
 use super::Slip;
 use cabinets::paper::Paper;
-use cabinets::track::Nature;
 use line::line::Line;
 use queue::Queue;
 use section::Section;
 use vocabulary::fault::Fault;
+use vocabulary::kind::Nature;
 use vocabulary::number::Serial;
 use vocabulary::station::Station;
 
@@ -23,10 +23,13 @@ impl Slip {
         nature: Nature,
         pass: bool,
     ) -> Result<Slip, Fault>
-        ensures { Issues L.Line.meaning L.Line.hears L.Line.drops L.Line.mends at minute train nature pass result section.old section.new tray.old tray.new }
+        ensures { Issues L.Line at minute train nature pass result section.old section.new tray.old tray.new }
     {
-        let answer = section.issue(tray, at, minute, train, nature, pass);
-        Slip::of_answer(at, answer)
+        let number = section.issue(tray, at, minute, train, nature, pass)?;
+        Ok(Slip {
+            station: at,
+            serial: Serial(number),
+        })
     }
 
     // The station that issued the paper.
@@ -41,18 +44,5 @@ impl Slip {
         ensures { result ≡ self.now.serial }
     {
         self.serial
-    }
-
-    // The slip of the serial that an issue answered.
-    fn of_answer(at: Station, answer: Result<u32, Fault>) -> Result<Slip, Fault>
-        ensures { result ≡ slip_for at answer }
-    {
-        match answer {
-            Ok(number) => Ok(Slip {
-                station: at,
-                serial: Serial(number),
-            }),
-            Err(fault) => Err(fault),
-        }
     }
 }

@@ -1,15 +1,16 @@
 // Holders of a slip, over any line. Each issues a paper at A, and is done with its slip in the end.
-ghost use Rattle.std.specs.Prelude.{◌≡◌, false};
-ghost use Rattle.slips.specs.Slips.{comes_back};
+ghost use Rattle.std.specs.Prelude.{◌≡◌, false, Ok};
+ghost use Rattle.slips.specs.Slips.{Ripe, comes_back};
+ghost use Rattle.slips.specs.declared.Slip.{Slip};
 ghost use Rattle.slips_tests.specs.Ended.{ended};
 
 use cabinets::paper::Paper;
-use cabinets::track::Nature;
 use line::line::Line;
 use queue::Queue;
 use section::Section;
 use slips::{Slip, Unspent};
 use vocabulary::fault::Fault;
+use vocabulary::kind::Nature;
 use vocabulary::number::Serial;
 use vocabulary::station::Station;
 
@@ -21,15 +22,7 @@ pub(crate) fn depart<L: Line>(
     section: &mut Section<'_, L>,
     tray: &mut Queue<'_, Paper>,
 ) -> Result<Serial, Fault> {
-    let slip = Slip::issue(
-        section,
-        tray,
-        Station::A,
-        MINUTE,
-        41,
-        Nature::Ordinary,
-        false,
-    )?;
+    let slip = issue(section, tray)?;
     let answer = slip.depart(section, tray, MINUTE);
     done(answer)
 }
@@ -39,15 +32,7 @@ pub(crate) fn cancel<L: Line>(
     section: &mut Section<'_, L>,
     tray: &mut Queue<'_, Paper>,
 ) -> Result<Serial, Fault> {
-    let slip = Slip::issue(
-        section,
-        tray,
-        Station::A,
-        MINUTE,
-        41,
-        Nature::Ordinary,
-        false,
-    )?;
+    let slip = issue(section, tray)?;
     let answer = slip.cancel(section, tray, MINUTE);
     done(answer)
 }
@@ -57,15 +42,7 @@ pub(crate) fn depart_too_soon<L: Line>(
     section: &mut Section<'_, L>,
     tray: &mut Queue<'_, Paper>,
 ) -> Result<(Option<Fault>, Serial), Fault> {
-    let slip = Slip::issue(
-        section,
-        tray,
-        Station::A,
-        MINUTE,
-        41,
-        Nature::Ordinary,
-        false,
-    )?;
+    let slip = issue(section, tray)?;
     let unspent = match slip.depart(section, tray, MINUTE - 1) {
         Ok(serial) => return Ok((None, serial)),
         Err(unspent) => unspent,
@@ -84,15 +61,7 @@ pub(crate) fn depart_cancelled<L: Line>(
     section: &mut Section<'_, L>,
     tray: &mut Queue<'_, Paper>,
 ) -> Result<Serial, Fault> {
-    let slip = Slip::issue(
-        section,
-        tray,
-        Station::A,
-        MINUTE,
-        41,
-        Nature::Ordinary,
-        false,
-    )?;
+    let slip = issue(section, tray)?;
     let _ = section.cancel(tray, slip.station(), MINUTE);
     let answer = slip.depart(section, tray, MINUTE);
     done(answer)
@@ -105,15 +74,7 @@ pub(crate) fn depart_elsewhere<L: Line>(
     other: &mut Section<'_, L>,
     other_tray: &mut Queue<'_, Paper>,
 ) -> Result<(Option<Fault>, Serial), Fault> {
-    let slip = Slip::issue(
-        section,
-        tray,
-        Station::A,
-        MINUTE,
-        41,
-        Nature::Ordinary,
-        false,
-    )?;
+    let slip = issue(section, tray)?;
     let unspent = match slip.depart(other, other_tray, MINUTE) {
         Ok(serial) => return Ok((None, serial)),
         Err(unspent) => unspent,
@@ -125,6 +86,21 @@ pub(crate) fn depart_elsewhere<L: Line>(
             Ok((Some(fault), done(answer)?))
         }
     }
+}
+
+// The slip of a paper issued at A for train 41.
+fn issue<L: Line>(section: &mut Section<'_, L>, tray: &mut Queue<'_, Paper>) -> Result<Slip, Fault>
+    ensures ripe { (slip : Slip) → result ≡ Ok slip → Ripe L.Line slip 5 section.new tray.new }
+{
+    Slip::issue(
+        section,
+        tray,
+        Station::A,
+        MINUTE,
+        41,
+        Nature::Ordinary,
+        false,
+    )
 }
 
 // The answer to a slip that did not come back: its serial, or why it ended.

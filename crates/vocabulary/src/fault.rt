@@ -1,6 +1,7 @@
 // Why something was refused: the layer that refused it, the fault's number, and the byte place in the log.
 ghost use Rattle.std.specs.Prelude.{◌≡◌};
 ghost use Rattle.vocabulary.specs.Faults.{fault_layer, fault_number, fault_place};
+ghost use Rattle.vocabulary.specs.declared.fault.Fault.TheVariants as of;
 
 // The layer that refused.
 #[derive(Clone, Copy, PartialEq, Eq, Debug)]
@@ -87,6 +88,7 @@ impl Fault {
         }
     }
 
+    // The number by which a refusal is printed.
     pub fn number(&self) -> u8
         ensures { result ≡ fault_number self.now }
     {
@@ -103,5 +105,23 @@ impl Fault {
         match *self {
             Fault::Log(_, place) | Fault::Making(_, place) | Fault::Call(_, place) => place,
         }
+    }
+}
+
+// Outside a log.
+impl From<MakingFault> for Fault {
+    ghost from_gives = { λ f r. r ≡ of.Making f 0 };
+
+    fn from(fault: MakingFault) -> Fault {
+        Fault::Making(fault, 0)
+    }
+}
+
+// Outside a log.
+impl From<CallFault> for Fault {
+    ghost from_gives = { λ f r. r ≡ of.Call f 0 };
+
+    fn from(fault: CallFault) -> Fault {
+        Fault::Call(fault, 0)
     }
 }

@@ -9,6 +9,7 @@ mod working;
 
 pub use working::MOST_MESSAGES;
 
+// The two queues may be lent for different times, so no one reference, nor one pair, holds either: each act on a station's queue names both.
 #[derive(Drop)]
 pub struct Printer<'a, 'b, 'c, 'd> {
     up: bool,

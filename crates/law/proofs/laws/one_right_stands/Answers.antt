@@ -1,4 +1,4 @@
-use Rattle.law.proofs.Invariant.{every_run_one_right}
+use Rattle.law.proofs.SameRuns.{every_run_one_right}
 use Rattle.law.proofs.laws.one_right_stands.Goals as goal
 
 pub returns : goal.returns

@@ -1,4 +1,4 @@
-use Rattle.law.proofs.Invariant.{every_run_safe}
+use Rattle.law.proofs.SameRuns.{every_run_safe}
 use Rattle.law.proofs.laws.safety_stands.Goals as goal
 
 pub returns : goal.returns

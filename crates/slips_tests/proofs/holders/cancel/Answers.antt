@@ -7,4 +7,4 @@ done-requires g c =
     let line = g.L.Line in
     let slip = c.in_ok-slip.slip in
     let ripe = c.issue.ensures.ripe slip c.in_ok-slip.was in
-    ripe_ends line.meaning line.hears line.drops line.mends c.issue.new.section c.cancel-answer.new.section c.issue.new.tray c.cancel-answer.new.tray slip 5 cancels c.cancel-answer.result c.cancel-answer.ensures ripe
+    ripe_ends line c.issue.new.section c.cancel-answer.new.section c.issue.new.tray c.cancel-answer.new.tray slip 5 cancels c.cancel-answer.result c.cancel-answer.ensures ripe

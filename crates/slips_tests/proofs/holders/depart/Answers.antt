@@ -7,4 +7,4 @@ done-requires g c =
     let line = g.L.Line in
     let slip = c.in_ok-slip.slip in
     let ripe = c.issue.ensures.ripe slip c.in_ok-slip.was in
-    ripe_ends line.meaning line.hears line.drops line.mends c.issue.new.section c.depart-answer.new.section c.issue.new.tray c.depart-answer.new.tray slip 5 departs c.depart-answer.result c.depart-answer.ensures ripe
+    ripe_ends line c.issue.new.section c.depart-answer.new.section c.issue.new.tray c.depart-answer.new.tray slip 5 departs c.depart-answer.result c.depart-answer.ensures ripe

@@ -11,6 +11,6 @@ done-requires g c =
     let line = g.L.Line in
     let slip = c.in_ok-slip.slip in
     let ripe = c.issue.ensures.ripe slip c.in_ok-slip.was in
-    let plain = subst (λ y. Comes line.meaning line.hears line.drops line.mends (checked_call y 5 act.Cancel) c.cancel.result c.issue.new.section c.cancel.new.self c.issue.new.tray c.cancel.new.tray) c.station.ensures c.cancel.ensures in
-    let still = ripe_after line.meaning line.hears line.drops line.mends c.issue.new.section c.cancel.new.self c.issue.new.tray c.cancel.new.tray slip 5 cancels c.cancel.result plain ripe in
-    ripe_ends line.meaning line.hears line.drops line.mends c.cancel.new.self c.depart-answer.new.section c.cancel.new.tray c.depart-answer.new.tray slip 5 departs c.depart-answer.result c.depart-answer.ensures still
+    let plain = subst (λ y. Comes line (checked_call y 5 act.Cancel) c.cancel.result c.issue.new.section c.cancel.new.self c.issue.new.tray c.cancel.new.tray) c.station.ensures c.cancel.ensures in
+    let still = ripe_after line c.issue.new.section c.cancel.new.self c.issue.new.tray c.cancel.new.tray slip 5 cancels c.cancel.result plain ripe in
+    ripe_ends line c.cancel.new.self c.depart-answer.new.section c.cancel.new.tray c.depart-answer.new.tray slip 5 departs c.depart-answer.result c.depart-answer.ensures still
