@@ -14,7 +14,7 @@ use Rattle.rules.specs.History.{Deed, Name, count_cancelled, count_handed_in, co
 use Rattle.cabinets.specs.Refusals.{NoneHolds}
 use Rattle.rules.specs.Safety.{name_of}
 use Rattle.cabinets.specs.Section.{View}
-use Rattle.cabinets.specs.Tests.{tests}
+use Rattle.rules.specs.Tests.{tests}
 use Rattle.cabinets.specs.Tray.{but_oldest, but_youngest, in_hand, is_out, oldest, serial_of, youngest, youngest_departed}
 use Rattle.cabinets.specs.declared.cabinet.Cabinet.{Cabinet}
 use Rattle.cabinets.specs.declared.paper.Paper.{Paper}

@@ -23,7 +23,7 @@ use Rattle.cabinets.specs.Rights.{has_right}
 use Rattle.rules.specs.Runs.{KeepsMeaning, MayChoose, Run, just_made, then_called}
 use Rattle.rules.specs.Safety.{CountsKept, EveryRunOneRight, EveryRunSafe, In, Live, RightKept, Safe, name_of}
 use Rattle.cabinets.specs.Section.{Section, View, cabinet, seen}
-use Rattle.cabinets.specs.Tests.{tests}
+use Rattle.rules.specs.Tests.{tests}
 use Rattle.cabinets.specs.Track.{interval}
 use Rattle.cabinets.specs.declared.cabinet.Cabinet.{Cabinet}
 use Rattle.cabinets.specs.declared.paper.Paper.{Paper}

@@ -16,13 +16,13 @@ use Rattle.rules.specs.Laws.{RulesHold}
 use Rattle.rules.specs.Outcome.{Choice, call_answer, call_refusal, judged, left, outcome_of, section_after}
 use Rattle.cabinets.specs.Refusals.{IsFirst, NoneHolds, Test, refusal, refuse}
 use Rattle.cabinets.specs.Section.{Section, View, cabinet, seen, unseen}
-use Rattle.cabinets.specs.Tests.{tests}
+use Rattle.rules.specs.Tests.{tests}
 use Rattle.cabinets.specs.declared.cabinet.Cabinet.{Cabinet}
 use Rattle.cabinets.specs.declared.paper.Paper.{Paper}
 use Rattle.rules.proofs.Basics.{passed, some_not_none}
 use Rattle.rules.proofs.Times.{heard_kept}
 
-first_is : {F : Type 0} (ts : List (Test F)) (r : F) → refusal ts ≡ Some r → IsFirst ts r
+pub first_is : {F : Type 0} (ts : List (Test F)) (r : F) → refusal ts ≡ Some r → IsFirst ts r
 first_is [] r e = absurd (some_not_none r (sym e))
 first_is (refuse f true ∷ ts) r e = let same : f ≡ r = cc in record { before = []; behind = ts; order = rw same refl; none_before = tt }
 first_is (refuse f false ∷ ts) r e =

@@ -18,7 +18,7 @@ use Rattle.cabinets.specs.Refusals.{NoneHolds}
 use Rattle.cabinets.specs.Rights.{b_has_right, has_right, is_b, number_carried, parted_to, regained_to}
 use Rattle.rules.specs.Safety.{In}
 use Rattle.cabinets.specs.Section.{View}
-use Rattle.cabinets.specs.Tests.{carries, tests}
+use Rattle.rules.specs.Tests.{carries, tests}
 use Rattle.cabinets.specs.Tray.{but_oldest, but_youngest, carried_by, departed_at, in_hand, is_in_hand, is_out, oldest, same_station, youngest, youngest_departed}
 use Rattle.cabinets.specs.declared.paper.Paper.{Paper}
 use Rattle.vocabulary.specs.declared.kind.Nature.{Nature}

@@ -13,7 +13,7 @@ use Rattle.rules.specs.Effects.{heard, heard_as, here_after, paper_for, tray_aft
 use Rattle.cabinets.specs.Refusals.{NoneHolds}
 use Rattle.rules.specs.Safety.{In}
 use Rattle.cabinets.specs.Section.{View}
-use Rattle.cabinets.specs.Tests.{dead, earlier_than, tests, too_soon, trains_out}
+use Rattle.rules.specs.Tests.{dead, earlier_than, tests, too_soon, trains_out}
 use Rattle.cabinets.specs.Track.{interval}
 use Rattle.cabinets.specs.Tray.{but_oldest, but_youngest, departed_at, in_hand, is_dead}
 use Rattle.cabinets.specs.declared.cabinet.Cabinet.{Cabinet}

@@ -12,7 +12,7 @@ use Rattle.cabinets.specs.declared.call.Act.TheVariants.{Hear as hear}
 use Rattle.cabinets.specs.declared.call.Call.TheVariants.{Act as act, DropLine as drop_line, MendLine as mend_line}
 use Rattle.rules.specs.Runs.{KeepsMeaning, MayChoose, Run, just_made, then_called}
 use Rattle.cabinets.specs.Section.{Section}
-use Rattle.cabinets.specs.Tests.{tests}
+use Rattle.rules.specs.Tests.{tests}
 use Rattle.rules.specs.Trials.{BenchTrials, NotEmpty, Played, first_of, play, telephone_chooses, trial_making, TrialsAreRuns}
 
 first_waits : (ms : List Message) → MayHear ms (first_of ms)

@@ -1,15 +1,17 @@
 -- What each call does where the counts have no end: to the cabinet that makes it, to the tray, and what it posts and answers. The cabinet's clock comes first. All but the four rising counts is as the cabinets do it.
-use Rattle.std.specs.Prelude.{ℕ, ◌+◌, ◌-◌, List, [], ◌∷◌, ◌++◌, Some, Option}
+use Rattle.std.specs.Prelude.{ℕ, ◌+◌, ◌-◌, max, List, [], ◌∷◌, ◌++◌, Some, None, Option}
 use Rattle.line.specs.declared.message.Message.{Message}
+use Rattle.line.specs.declared.message.MessageKind.{MessageKind}
+use Rattle.line.specs.declared.message.MessageKind.TheVariants as kind
 use Rattle.vocabulary.specs.declared.number.RightNumber.{RightNumber}
 use Rattle.vocabulary.specs.declared.station.Station.{Station}
-use Rattle.cabinets.specs.Cabinets.{with_cancelled, with_clock, with_gone, with_last_departure, with_set_back, with_taken, with_working}
+use Rattle.cabinets.specs.Cabinets.{with_ask_heard, with_cancelled, with_clock, with_gone, with_known, with_last_arrival, with_last_departure, with_set_back, with_taken, with_working}
 use Rattle.cabinets.specs.declared.call.Act.{Act}
 use Rattle.cabinets.specs.declared.call.Act.TheVariants.{Ask as ask, Accept as accept, Issue as issue, Depart as depart, Cancel as cancel, Arrive as arrive, SetBack as set_back, Report as report, Release as release, Hear as hear, DeclareDead as declare_dead, Resume as resume}
 use Rattle.cabinets.specs.Effects as cabinets
-pub use Rattle.cabinets.specs.Effects.{acceptance_heard, acceptance_record, accepted, asked, came_number, gone_dead, heard, heard_as, heard_count, heard_train, inbox_after, is_count, is_ticket, issued_one, kind_number, paper_for, paper_record, posts, record_if_any, released, report_heard, with_posted}
+pub use Rattle.cabinets.specs.Effects.{acceptance_heard, acceptance_record, accepted, asked, came_number, gone_dead, heard_count, heard_train, inbox_after, is_count, is_ticket, issued_one, kind_number, paper_for, paper_record, posts, record_if_any, released, with_posted}
 use Rattle.cabinets.specs.Records.{with_next_record}
-use Rattle.cabinets.specs.Rights.{learnt_from, parted, regained}
+use Rattle.cabinets.specs.Rights.{learnt, learnt_from, parted, regained}
 use Rattle.cabinets.specs.Section.{View}
 use Rattle.cabinets.specs.Tray.{but_oldest, but_youngest, carried_by, oldest, youngest, youngest_departed}
 use Rattle.cabinets.specs.declared.cabinet.Cabinet.{Cabinet}
@@ -31,6 +33,20 @@ took carried c = learnt_from carried (with_taken (c.taken + 1) c)
 -- a paper set back, which may have carried a number
 abbrev pub took_back : Option RightNumber → Cabinet → Cabinet
 took_back carried c = regained carried (with_set_back (c.set_back + 1) (with_gone (c.gone - 1) c))
+
+-- A report, a message by its kind, and what hearing does. These are the same in the cabinets, and stand here for the same reason as the tests of an issue.
+abbrev pub report_heard : Message → Cabinet → Cabinet
+report_heard m c = with_known (max c.known m.taken) (with_last_arrival (Some m.«record») c)
+
+abbrev pub heard_as : MessageKind → Message → Cabinet → Cabinet
+heard_as kind.Ask m c = with_ask_heard (Some (record { train = m.train; count = m.count })) (learnt m.right.0 c)
+heard_as kind.Acceptance m c = acceptance_heard m (learnt m.right.0 c)
+heard_as kind.Report m c = report_heard m c
+heard_as kind.Release m c = with_ask_heard None (learnt m.right.0 c)
+
+abbrev pub heard : Option Message → Cabinet → Cabinet
+heard None c = c
+heard (Some m) c = heard_as m.kind m c
 
 -- the cabinet after an act at a minute
 abbrev pub here_after : Station → ℕ → Act → Option Message → List Paper → Cabinet → Cabinet

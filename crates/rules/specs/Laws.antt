@@ -7,11 +7,10 @@ use Rattle.vocabulary.specs.declared.station.Station.{Station}
 use Rattle.cabinets.specs.Calls.{call_from}
 use Rattle.cabinets.specs.declared.call.Act.{Act}
 use Rattle.cabinets.specs.declared.call.Call.TheVariants.{Act as act}
-use Rattle.cabinets.specs.Outcome.{Choice, call_refusal}
-use Rattle.rules.specs.Outcome.{call_answer, outcome, section_after}
+use Rattle.rules.specs.Outcome.{Choice, call_answer, call_refusal, outcome, section_after}
 use Rattle.cabinets.specs.Refusals.{IsFirst, NoneHolds}
 use Rattle.cabinets.specs.Section.{Section, cabinet, seen}
-use Rattle.cabinets.specs.Tests.{tests}
+use Rattle.rules.specs.Tests.{tests}
 
 pub record RulesHold : Type 0 where
   -- the refusal given is that of the first test that holds

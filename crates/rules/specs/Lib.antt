@@ -4,6 +4,7 @@ pub mod Laws
 pub mod Outcome
 pub mod Runs
 pub mod Safety
+pub mod Tests
 pub mod Trials
 pub use Rattle.cabinets.specs.Cabinets
 pub use Rattle.cabinets.specs.Calls
@@ -12,6 +13,5 @@ pub use Rattle.cabinets.specs.Records
 pub use Rattle.cabinets.specs.Refusals
 pub use Rattle.cabinets.specs.Rights
 pub use Rattle.cabinets.specs.Section
-pub use Rattle.cabinets.specs.Tests
 pub use Rattle.cabinets.specs.Track
 pub use Rattle.cabinets.specs.Tray

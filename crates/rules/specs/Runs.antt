@@ -10,8 +10,7 @@ use Rattle.cabinets.specs.declared.call.Act.TheVariants.{Hear as hear}
 use Rattle.cabinets.specs.declared.call.Call.TheVariants.{Act as act, DropLine as drop_line, MendLine as mend_line}
 use Rattle.rules.specs.History.{History}
 use Rattle.cabinets.specs.Making.{Making, making}
-use Rattle.cabinets.specs.Outcome.{Choice, call_refusal, left, marked}
-use Rattle.rules.specs.Outcome.{outcome}
+use Rattle.rules.specs.Outcome.{Choice, call_refusal, left, marked, outcome}
 use Rattle.cabinets.specs.Section.{Section}
 
 -- what a line may choose when a station acts: only a hearing asks it for anything

@@ -19,7 +19,7 @@ use Rattle.cabinets.specs.declared.call.Act.TheVariants as act
 use Rattle.cabinets.specs.declared.call.Call.{Call}
 use Rattle.cabinets.specs.declared.call.Call.TheVariants as call
 use Rattle.cabinets.specs.declared.paper.Paper.{Paper}
-use Rattle.law.proofs.SameRuns.{every_run_one_right, every_run_safe}
+use Rattle.law.proofs.SameRuns.{every_run_one_right, every_run_safe, same_refusal}
 use Rattle.section.specs.Called.{Comes, LineDid, chosen, is_hear}
 use Rattle.section.specs.Running.{GoesOn, event}
 use Rattle.section.specs.State.{state}
@@ -53,7 +53,7 @@ module _ {L : Type 0} (line : Line L) where
     keeps : (c : Option Call) (a : Result ℕ CallFault) (s' : Situation) → record { answer = a; after = s' } ≡ outcome_of c (chosen came (line.meaning l')) s → LineDid line c (is_ok a) came l l' → KeepsMeaning c (chosen came (line.meaning l')) s
     keeps None a s' r d = tt
     keeps (Some (call.Act x minute k)) a s' r d =
-        λ none. chooses x k (λ h. d (rw (h, answered (call_refusal (call.Act x minute k) s) _ _ s a none (ap (λ y. y.answer) r)) refl))
+        λ none. chooses x k (λ h. d (rw (h, answered (call_refusal (call.Act x minute k) s) _ _ s a (same_refusal (call.Act x minute k) s ∙ none) (ap (λ y. y.answer) r)) refl))
     keeps (Some call.DropLine) a s' r d =
         let k = line.laws.dropped l l' d in
         record { mark_is = refl; left_a = rw e k.left_a; left_b = rw e k.left_b; most_is = refl }
