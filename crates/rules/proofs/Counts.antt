@@ -14,6 +14,7 @@ use Rattle.rules.specs.History.{Deed, Name, count_cancelled, count_handed_in, co
 use Rattle.cabinets.specs.Refusals.{NoneHolds}
 use Rattle.rules.specs.Safety.{name_of}
 use Rattle.cabinets.specs.Section.{View}
+use Rattle.cabinets.specs.Tests.{tests as cabinets_tests}
 use Rattle.rules.specs.Tests.{tests}
 use Rattle.cabinets.specs.Tray.{but_oldest, but_youngest, in_hand, is_out, oldest, serial_of, youngest, youngest_departed}
 use Rattle.cabinets.specs.declared.cabinet.Cabinet.{Cabinet}
@@ -86,7 +87,7 @@ module _ (x : Station) (minute : ℕ) (v : View) (n : Numbers x v) (ds : List De
       }
 
   told_depart : NoneHolds (tests x minute depart v) → After depart
-  unfolding tests
+  unfolding tests cabinets_tests
   told_depart p =
       let q = held_in_hand x v n (not-false (in_hand x v.tray) p.1.0) in
       let h = q.0 in
@@ -100,7 +101,7 @@ module _ (x : Station) (minute : ℕ) (v : View) (n : Numbers x v) (ds : List De
       subst (λ j. Ledger (made ds) (λ k. one_more_if (same_name j k) (times_closed k ds)) (λ k. departure k ds) (but_youngest v.tray)) (last_name h) l
 
   told_cancel : NoneHolds (tests x minute cancel v) → After cancel
-  unfolding tests
+  unfolding tests cabinets_tests
   told_cancel p =
       let q = held_in_hand x v n (not-false (in_hand x v.tray) p.1.0) in
       record {
@@ -110,7 +111,7 @@ module _ (x : Station) (minute : ℕ) (v : View) (n : Numbers x v) (ds : List De
       }
 
   told_set_back : (serial : Serial) → NoneHolds (tests x minute (set_back serial) v) → After (set_back serial)
-  unfolding tests
+  unfolding tests cabinets_tests
   told_set_back serial p =
       let q = held_out x serial.0 v n (not-false (is_out x serial.0 (youngest v.tray)) p.1.1.0) in
       record {
@@ -120,7 +121,7 @@ module _ (x : Station) (minute : ℕ) (v : View) (n : Numbers x v) (ds : List De
       }
 
   told_arrive : (serial : Serial) → NoneHolds (tests x minute (arrive serial) v) → After (arrive serial)
-  unfolding tests
+  unfolding tests cabinets_tests
   told_arrive serial p =
       let o = out_is (opposite x) serial.0 (oldest v.tray) (not-false (is_out (opposite x) serial.0 (oldest v.tray)) p.1.0) in
       let q = o.0 in

@@ -16,6 +16,7 @@ use Rattle.rules.specs.Laws.{RulesHold}
 use Rattle.rules.specs.Outcome.{Choice, call_answer, call_refusal, judged, left, outcome_of, section_after}
 use Rattle.cabinets.specs.Refusals.{IsFirst, NoneHolds, Test, refusal, refuse}
 use Rattle.cabinets.specs.Section.{Section, View, cabinet, seen, unseen}
+use Rattle.cabinets.specs.Tests.{tests as cabinets_tests}
 use Rattle.rules.specs.Tests.{tests}
 use Rattle.cabinets.specs.declared.cabinet.Cabinet.{Cabinet}
 use Rattle.cabinets.specs.declared.paper.Paper.{Paper}
@@ -43,7 +44,7 @@ unchanged_of (Some c) ch s r e = judged_unchanged (call_refusal c s) (call_answe
 
 -- no test lets an act be earlier than the clock
 pub on_time : (x : Station) (minute : ℕ) (a : Act) (v : View) → NoneHolds (tests x minute a v) → v.here.clock ≤ minute
-unfolding tests
+unfolding tests cabinets_tests
 on_time x minute hear v p = ltb-false minute v.here.clock p.0
 on_time x minute a v p = ltb-false minute v.here.clock p.0
 

@@ -18,6 +18,7 @@ use Rattle.cabinets.specs.Refusals.{NoneHolds}
 use Rattle.cabinets.specs.Rights.{b_has_right, has_right, is_b, number_carried, parted_to, regained_to}
 use Rattle.rules.specs.Safety.{In}
 use Rattle.cabinets.specs.Section.{View}
+use Rattle.cabinets.specs.Tests.{tests as cabinets_tests}
 use Rattle.rules.specs.Tests.{carries, tests}
 use Rattle.cabinets.specs.Tray.{but_oldest, but_youngest, carried_by, departed_at, in_hand, is_in_hand, is_out, oldest, same_station, youngest, youngest_departed}
 use Rattle.cabinets.specs.declared.paper.Paper.{Paper}
@@ -213,20 +214,20 @@ arrived x r s (p ∷ ps) last o older b q e d =
 
 module _ (x : Station) (minute : ℕ) (v : View) (n : Numbers x v) (came : Option Message) (left : List Message) where
   step_ask : (train : ℕ) → NoneHolds (tests x minute (ask train) v) → Numbers x (view_after x minute (ask train) came left v)
-  unfolding tests
+  unfolding tests cabinets_tests
   step_ask train p =
       let g = give x v false _ n (clear x v n p.1.1.1.0 p.1.1.1.1.0) (λ e. let z : ◌≡◌ {A = ℕ} 0 1 = cc in absurd (omega arith)) refl refl in
       record { phase = g.phase; sent = g.sent; coming = g.coming; books = n.books; theirs_too = n.theirs_too }
 
   step_accept : NoneHolds (tests x minute accept v) → Numbers x (view_after x minute accept came left v)
-  unfolding tests
+  unfolding tests cabinets_tests
   step_accept p =
       let c = with_clock minute v.here in
       let g = give x v (has_right x c) _ n (clear x v n p.1.1.1.0 p.1.1.1.1.1.0) (has_from x c) refl refl in
       record { phase = g.phase; sent = g.sent; coming = g.coming; books = n.books; theirs_too = n.theirs_too }
 
   step_release : NoneHolds (tests x minute release v) → Numbers x (view_after x minute release came left v)
-  unfolding tests
+  unfolding tests cabinets_tests
   step_release p =
       let c = with_clock minute v.here in
       let g = give x v (b_has_right x c) _ n (clear x v n p.1.1.1.0 p.1.1.1.1.1.0) (λ e. has_from x c (and_parts (is_b x) (has_right x c) e).1) refl refl in
@@ -236,7 +237,7 @@ module _ (x : Station) (minute : ℕ) (v : View) (n : Numbers x v) (came : Optio
   step_report = record { phase = n.phase; sent = told_more v.outbox _ n.sent (omega arith) (λ l. omega arith) (omega arith); coming = n.coming; books = n.books; theirs_too = n.theirs_too }
 
   step_cancel : NoneHolds (tests x minute cancel v) → Numbers x (view_after x minute cancel came left v)
-  unfolding tests
+  unfolding tests cabinets_tests
   step_cancel p =
       let q = held_in_hand x v n (not-false (in_hand x v.tray) p.1.0) in
       let h = q.0 in
@@ -253,7 +254,7 @@ module _ (x : Station) (minute : ℕ) (v : View) (n : Numbers x v) (came : Optio
       }
 
   step_set_back : (serial : Serial) → NoneHolds (tests x minute (set_back serial) v) → Numbers x (view_after x minute (set_back serial) came left v)
-  unfolding tests
+  unfolding tests cabinets_tests
   step_set_back serial p =
       let q = held_out x serial.0 v n (not-false (is_out x serial.0 (youngest v.tray)) p.1.1.0) in
       let h = q.0 in
@@ -271,7 +272,7 @@ module _ (x : Station) (minute : ℕ) (v : View) (n : Numbers x v) (came : Optio
       }
 
   step_depart : NoneHolds (tests x minute depart v) → Numbers x (view_after x minute depart came left v)
-  unfolding tests
+  unfolding tests cabinets_tests
   step_depart p =
       let q = held_in_hand x v n (not-false (in_hand x v.tray) p.1.0) in
       let h = q.0 in
@@ -321,7 +322,7 @@ module _ (x : Station) (minute : ℕ) (v : View) (n : Numbers x v) (came : Optio
           (b.1, λ q i. ⊎_elim (λ j. h.older q j) (λ e. rw e last) (in_split q h.last h.front (rw h.is at i)))
 
   step_issue : (train : ℕ) (nature : Nature) (pass : Bool) → NoneHolds (tests x minute (issue train nature pass) v) → Numbers x (view_after x minute (issue train nature pass) came left v)
-  unfolding tests
+  unfolding tests cabinets_tests
   step_issue train nature pass p =
       let right : has_right x v.here ≡ true = not-false (has_right x v.here) p.1.1.1.1.0 in
       let k = issuable p.1.1.1.0 right in
@@ -343,7 +344,7 @@ module _ (x : Station) (minute : ℕ) (v : View) (n : Numbers x v) (came : Optio
       }
 
   step_arrive : (serial : Serial) → NoneHolds (tests x minute (arrive serial) v) → Numbers x (view_after x minute (arrive serial) came left v)
-  unfolding tests
+  unfolding tests cabinets_tests
   step_arrive serial p =
       let o = out_is (opposite x) serial.0 (oldest v.tray) (not-false (is_out (opposite x) serial.0 (oldest v.tray)) p.1.0) in
       take_in o.0 o.1 o.2 o.3 n.phase

@@ -13,6 +13,7 @@ use Rattle.rules.specs.Effects.{heard, heard_as, here_after, paper_for, tray_aft
 use Rattle.cabinets.specs.Refusals.{NoneHolds}
 use Rattle.rules.specs.Safety.{In}
 use Rattle.cabinets.specs.Section.{View}
+use Rattle.cabinets.specs.Tests.{tests as cabinets_tests}
 use Rattle.rules.specs.Tests.{dead, earlier_than, tests, too_soon, trains_out}
 use Rattle.cabinets.specs.Track.{interval}
 use Rattle.cabinets.specs.Tray.{but_oldest, but_youngest, departed_at, in_hand, is_dead}
@@ -66,7 +67,7 @@ in_but_oldest p (q ∷ qs) i = inr i
 
 -- the other station's papers are those that it had
 pub old_theirs : (x : Station) (minute : ℕ) (a : Act) (v : View) → Numbers x v → NoneHolds (tests x minute a v) → (p : Paper) → In p (tray_after x minute a v) → p.station ≡ opposite x → In p v.tray
-unfolding tests
+unfolding tests cabinets_tests
 old_theirs x minute (issue train nature pass) v n e p i o = ⊎_elim (λ j. j) (λ f. absurd (not_other x (ap (λ q. q.station) (sym f) ∙ o))) (in_split p (paper_for x train pass v.track v.here) v.tray i)
 old_theirs x minute depart v n e p i o =
     let q = held_in_hand x v n (not-false (in_hand x v.tray) e.1.0) in
@@ -160,7 +161,7 @@ heard_kept (Some m) c = heard_as_kept m.kind m c
 
 -- every act keeps the invariant of the station that acts
 pub own_times : (x : Station) (minute : ℕ) (a : Act) (came : Option Message) (v : View) → Numbers x v → NoneHolds (tests x minute a v) → Times x (interval v.track) v.here.clock v.here.last_departure v.tray → Times x (interval v.track) (here_after x minute a came v.tray v.here).clock (here_after x minute a came v.tray v.here).last_departure (tray_after x minute a v)
-unfolding tests
+unfolding tests cabinets_tests
 own_times x minute (issue train nature pass) came v n e t = issue_times x minute v n t (ltb-false minute v.here.clock e.0) (paper_for x train pass v.track v.here) refl e.1.1.1.1.1.0 e.1.1.1.1.1.1.1.1.0
 own_times x minute depart came v n e t =
     let q = held_in_hand x v n (not-false (in_hand x v.tray) e.1.0) in

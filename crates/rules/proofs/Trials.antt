@@ -12,6 +12,7 @@ use Rattle.cabinets.specs.declared.call.Act.TheVariants.{Hear as hear}
 use Rattle.cabinets.specs.declared.call.Call.TheVariants.{Act as act, DropLine as drop_line, MendLine as mend_line}
 use Rattle.rules.specs.Runs.{KeepsMeaning, MayChoose, Run, just_made, then_called}
 use Rattle.cabinets.specs.Section.{Section}
+use Rattle.cabinets.specs.Tests.{tests as cabinets_tests}
 use Rattle.rules.specs.Tests.{tests}
 use Rattle.rules.specs.Trials.{BenchTrials, NotEmpty, Played, first_of, play, telephone_chooses, trial_making, TrialsAreRuns}
 
@@ -41,9 +42,9 @@ trials_are_runs : TrialsAreRuns
 trials_are_runs fs = played_runs fs _ (just_made trial_making refl)
 
 pub bench_trials : BenchTrials
-unfolding call_from tests
+unfolding call_from tests cabinets_tests
 bench_trials = record { ten = refl; eleven = refl; fresh_a = refl; fresh_b = refl; dead_working = refl; dead_rescue = refl; new_day = (refl, refl); lost_a = refl; lost_b = refl }
 
 pub not_empty : NotEmpty
-unfolding call_from tests
+unfolding call_from tests cabinets_tests
 not_empty = record { runs = trials_are_runs; two_live = refl; departures = (refl, refl, refl); crossed = (refl, refl); came_back = (refl, refl, refl); lost = (refl, refl) }

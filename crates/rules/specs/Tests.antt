@@ -8,10 +8,11 @@ use Rattle.cabinets.specs.Refusals.{Test, refuse}
 use Rattle.cabinets.specs.Rights.{has_right, right_at_end}
 use Rattle.cabinets.specs.Section.{View}
 pub use Rattle.cabinets.specs.Tests.{accept_tests, accepted_for, arrive_tests, ask_tests, barred_when_dead, cannot_post, carries, dead, declare_dead_tests, earlier_than, hear_tests, in_hand_tests, is_for, line_work_tests, nothing_to_release, release_tests, report_tests, resume_tests, set_back_tests, sight_of, too_soon, trains_out, with_post}
+use Rattle.cabinets.specs.Tests.{tests as cabinets_tests}
 use Rattle.cabinets.specs.Track.{is_one_way}
-use Rattle.cabinets.specs.Tray.{has_live, in_hand, oldest, youngest}
+use Rattle.cabinets.specs.Tray.{in_hand}
 use Rattle.cabinets.specs.declared.call.Act.{Act}
-use Rattle.cabinets.specs.declared.call.Act.TheVariants.{Ask as ask, Accept as accept, Issue as issue, Depart as depart, Cancel as cancel, Arrive as arrive, SetBack as set_back, Report as report, Release as release, Hear as hear, DeclareDead as declare_dead, Resume as resume}
+use Rattle.cabinets.specs.declared.call.Act.TheVariants.{Issue as issue}
 
 abbrev pub issue_tests : Station → ℕ → ℕ → Nature → Bool → View → List (Test CallFault)
 issue_tests x minute train nature pass v =
@@ -28,17 +29,7 @@ issue_tests x minute train nature pass v =
     ∷ refuse fault.TrayFull (nat_le v.size (length v.tray))
     ∷ []
 
--- a station's tests for an act at a minute
+-- a station's tests for an act at a minute: those of an issue, and those of the cabinets for any other
 unfoldable pub tests : Station → ℕ → Act → View → List (Test CallFault)
-tests x minute (ask train) v = with_post v (ask_tests minute v.here (sight_of x v))
-tests x minute accept v = with_post v (accept_tests x minute v.here (sight_of x v))
 tests x minute (issue train nature pass) v = issue_tests x minute train nature pass v
-tests x minute depart v = in_hand_tests x minute v.here (youngest v.tray)
-tests x minute cancel v = in_hand_tests x minute v.here (youngest v.tray)
-tests x minute (arrive serial) v = arrive_tests x minute serial.0 v.here (oldest v.tray) (has_live x v.tray)
-tests x minute (set_back serial) v = set_back_tests x minute serial.0 v.here (youngest v.tray)
-tests x minute report v = with_post v (report_tests minute v.here)
-tests x minute release v = with_post v (release_tests x minute v.here (sight_of x v))
-tests x minute hear v = hear_tests minute v.here
-tests x minute declare_dead v = declare_dead_tests minute v.here v.up
-tests x minute resume v = resume_tests minute v.here v.up
+tests x minute a v = cabinets_tests x minute a v
